@@ -1,0 +1,258 @@
+//! Ids of producers, items of a worker, and parts of sources and sinks.
+ghost use Rattle.std.specs.Prelude.{◌≡◌, IfOk};
+ghost use Rattle.cw_types.specs.Order.{item_cmp};
+ghost use Rattle.cw_types.specs.Text.{tid_text};
+
+use crate::name::Name;
+use std::alloc::{AllocError, Global};
+use std::cmp::Ordering;
+
+/// A task of a connector. Tasks are numbered from 0.
+#[derive(Debug, PartialEq, Eq, PartialOrd, Ord, Drop)]
+pub struct TaskId {
+    /// The connector's name.
+    pub connector: Name,
+    /// The task's number in its connector.
+    pub index: u32,
+}
+
+impl TaskId {
+    /// A copy.
+    pub fn copy(&self) -> Result<Self, AllocError>
+        ensures { IfOk result (λ id. id ≡ self.now) }
+    {
+        Ok(TaskId {
+            connector: self.connector.copy()?,
+            index: self.index,
+        })
+    }
+}
+
+/// What a worker runs. Connectors come before tasks, each by the bytes of its name, tasks then by index.
+#[derive(Debug, PartialEq, Eq, PartialOrd, Ord, Drop)]
+pub enum Item {
+    /// A connector.
+    Connector(Name),
+    /// One of its tasks.
+    Task(TaskId),
+}
+
+impl Item {
+    /// A copy.
+    pub fn copy(&self) -> Result<Self, AllocError>
+        ensures { IfOk result (λ item. item ≡ self.now) }
+    {
+        match self {
+            Item::Connector(name) => Ok(Item::Connector(name.copy()?)),
+            Item::Task(id) => Ok(Item::Task(id.copy()?)),
+        }
+    }
+}
+
+/// How two items are ordered.
+pub fn order_of_items(a: &Item, b: &Item) -> Ordering
+    ensures { result ≡ item_cmp a.now b.now }
+{
+    a.cmp(b)
+}
+
+/// The transactional id of a producer (KIP-98, KIP-618).
+#[derive(Debug, PartialEq, Eq, PartialOrd, Ord, Drop)]
+pub enum Tid {
+    /// The leader of the group, which writes configs.
+    Lead,
+    /// A task.
+    Task(TaskId),
+    /// A producer of a script, by its number.
+    Raw(u32),
+}
+
+impl Tid {
+    /// A copy.
+    pub fn copy(&self) -> Result<Self, AllocError>
+        ensures { IfOk result (λ tid. tid ≡ self.now) }
+    {
+        match self {
+            Tid::Lead => Ok(Tid::Lead),
+            Tid::Task(id) => Ok(Tid::Task(id.copy()?)),
+            Tid::Raw(number) => Ok(Tid::Raw(*number)),
+        }
+    }
+}
+
+/// A producer's epoch: how often its id was initialised or fenced up to then, 0 before the first time.
+#[derive(Clone, Copy, Debug, PartialEq, Eq, PartialOrd, Ord, Drop)]
+pub struct Epoch(pub u64);
+
+/// A transaction: its producer's id and epoch, and a number that tells it from others of these.
+#[derive(Debug, PartialEq, Eq, PartialOrd, Ord, Drop)]
+pub struct Tag {
+    /// The producer's id.
+    pub tid: Tid,
+    /// The producer's epoch.
+    pub epoch: Epoch,
+    /// The transaction's number under that id and epoch.
+    pub number: u64,
+}
+
+impl Tag {
+    /// A copy.
+    pub fn copy(&self) -> Result<Self, AllocError>
+        ensures { IfOk result (λ tag. tag ≡ self.now) }
+    {
+        Ok(Tag {
+            tid: self.tid.copy()?,
+            epoch: self.epoch,
+            number: self.number,
+        })
+    }
+}
+
+/// What offsets are kept of: a partition of a source, or a topic of a sink.
+#[derive(Debug, PartialEq, Eq, PartialOrd, Ord, Drop)]
+pub enum PartKey {
+    /// A part of a script, by its number.
+    Raw(u32),
+    /// A feed of a file source.
+    File {
+        /// The connector.
+        connector: Name,
+        /// The feed.
+        feed: Name,
+    },
+    /// A sequence of a sequence source.
+    Seq {
+        /// The connector.
+        connector: Name,
+        /// The sequence's number.
+        index: u32,
+    },
+    /// A topic of a sink.
+    Sink {
+        /// The connector.
+        connector: Name,
+        /// The topic.
+        topic: Name,
+    },
+}
+
+impl PartKey {
+    /// A copy.
+    pub fn copy(&self) -> Result<Self, AllocError>
+        ensures { IfOk result (λ part. part ≡ self.now) }
+    {
+        match self {
+            PartKey::Raw(number) => Ok(PartKey::Raw(*number)),
+            PartKey::File { connector, feed } => Ok(PartKey::File {
+                connector: connector.copy()?,
+                feed: feed.copy()?,
+            }),
+            PartKey::Seq { connector, index } => Ok(PartKey::Seq {
+                connector: connector.copy()?,
+                index: *index,
+            }),
+            PartKey::Sink { connector, topic } => Ok(PartKey::Sink {
+                connector: connector.copy()?,
+                topic: topic.copy()?,
+            }),
+        }
+    }
+}
+
+/// What one transaction adds to a part: from one position up to another, which isn't in it.
+#[derive(Debug, PartialEq, Eq, Drop)]
+pub struct Span {
+    /// The part.
+    pub part: PartKey,
+    /// Its end before the transaction.
+    pub from: u64,
+    /// Its end after it.
+    pub to: u64,
+}
+
+impl Span {
+    /// A copy.
+    pub fn copy(&self) -> Result<Self, AllocError>
+        ensures { IfOk result (λ span. span ≡ self.now) }
+    {
+        Ok(Span {
+            part: self.part.copy()?,
+            from: self.from,
+            to: self.to,
+        })
+    }
+}
+
+/// The text of a transactional id, as Kafka's brokers would see it (KIP-618): `connect-cluster-GROUP`
+/// for the leader, `GROUP-CONNECTOR-INDEX` for a task, `raw-NUMBER` for a producer of a script.
+pub fn tid_text(alloc: Global, group: &Name, tid: &Tid) -> Result<Vec<u8>, AllocError>
+    ensures { IfOk result (λ text. text.items ≡ tid_text group.now tid.now) }
+{
+    let mut text = Vec::new(alloc);
+    match tid {
+        Tid::Lead => {
+            text.extend_from_slice(b"connect-cluster-")?;
+            text.extend_from_slice(group.as_bytes())?;
+        }
+        Tid::Task(id) => {
+            text.extend_from_slice(group.as_bytes())?;
+            text.push(b'-')?;
+            text.extend_from_slice(id.connector.as_bytes())?;
+            text.push(b'-')?;
+            text.extend_from_slice(id.index.to_string(alloc)?.as_bytes())?;
+        }
+        Tid::Raw(number) => {
+            text.extend_from_slice(b"raw-")?;
+            text.extend_from_slice(number.to_string(alloc)?.as_bytes())?;
+        }
+    }
+    Ok(text)
+}
+
+#[cfg(test)]
+mod tests {
+    use super::*;
+    use std::test::Fail;
+
+    #[test]
+    fn ids_are_copied_ordered_and_written(rt: HostRuntime) -> Result<(), Fail> {
+        let group = Name::read(rt.alloc(), b"g")?;
+        let id = TaskId {
+            connector: Name::read(rt.alloc(), b"a-1")?,
+            index: 0,
+        };
+        let task = Tid::Task(id.copy()?);
+        assert_eq!(rt;
+            tid_text(rt.alloc(), &group, &task)?.as_slice(),
+            b"g-a-1-0".as_slice()
+        );
+        assert_eq!(rt;
+            tid_text(rt.alloc(), &group, &Tid::Lead)?.as_slice(),
+            b"connect-cluster-g".as_slice()
+        );
+        assert_eq!(rt;
+            tid_text(rt.alloc(), &group, &Tid::Raw(7))?.as_slice(),
+            b"raw-7".as_slice()
+        );
+        let connector = Item::Connector(Name::read(rt.alloc(), b"b")?);
+        let item = Item::Task(id);
+        assert!(rt; order_of_items(&connector, &item) == Ordering::Less);
+        assert!(rt; order_of_items(&item.copy()?, &item) == Ordering::Equal);
+        let tag = Tag {
+            tid: task,
+            epoch: Epoch(3),
+            number: 4,
+        };
+        assert!(rt; tag.copy()? == tag);
+        let span = Span {
+            part: PartKey::Seq {
+                connector: group,
+                index: 9,
+            },
+            from: 1,
+            to: 2,
+        };
+        assert!(rt; span.copy()? == span);
+        Ok(())
+    }
+}

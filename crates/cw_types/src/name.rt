@@ -1,0 +1,168 @@
+//! Names of connectors, feeds, topics and groups.
+ghost use Rattle.std.specs.Prelude.{◌≡◌, ◌≢◌, None, Some, IfOk, IfErr, position, not, nat_eq, refl};
+ghost use Rattle.std.specs.Ordering.{nat_cmp};
+ghost use Rattle.std.specs.Cmp.Lexicographic.{pointwise, slice_cmp, nat_list_eq_equiv, nat_list_cmp_total, texts_ties, texts_po};
+ghost use Rattle.std.specs.Cmp.{partial_equiv_from_equiv};
+ghost use Rattle.cw_types.specs.Name.{is_name_byte, name_fault, IsName};
+
+use std::alloc::{AllocError, Global};
+use std::cmp::Ordering;
+use std::marker::Model;
+
+/// A name: 1 to 128 bytes, each from `!` (0x21) to `~` (0x7E). Clauses see its bytes.
+#[derive(Debug, Drop)]
+pub struct Name {
+    bytes: Vec<u8>,
+}
+
+impl Model for Name {
+    ghost use Rattle.std.specs.Prelude.{List, ℕ};
+    ghost use Rattle.cw_types.specs.Name.{IsName};
+
+    ghost Value = { List ℕ };
+
+    ghost view = { λ a. a.bytes.items };
+
+    ghost invariant = { λ a. IsName a.bytes.items };
+}
+
+/// Why bytes are no name, the first that holds in this order.
+#[derive(Clone, Copy, Debug, PartialEq, Eq, Drop)]
+pub enum NameFault {
+    /// There is no byte.
+    Empty,
+    /// There are more than 128 bytes.
+    TooLong,
+    /// The first byte outside 0x21 to 0x7E has this place, counted from 0.
+    BadByte(usize),
+    /// There was no memory for the copy.
+    Memory,
+}
+
+impl From<AllocError> for NameFault {
+    ghost use Rattle.cw_types.specs.declared.name.NameFault.TheVariants.{Memory};
+
+    ghost from_gives = { λ _ fault. fault ≡ Memory };
+
+    fn from(_: AllocError) -> NameFault {
+        NameFault::Memory
+    }
+}
+
+fn is_name_byte(byte: u8) -> bool
+    ensures { result ≡ is_name_byte byte }
+{
+    (33..=126).contains(&byte)
+}
+
+// The place of the first byte that no name holds.
+fn bad_byte(text: &[u8]) -> Option<usize>
+    ensures { result ≡ position (λ b. not (is_name_byte b)) text.now }
+{
+    text.iter().position(|byte| !is_name_byte(*byte))
+}
+
+impl Name {
+    /// Reads a name from its bytes, or says the first fault that they have.
+    pub fn read(alloc: Global, text: &[u8]) -> Result<Name, NameFault>
+        ensures ok { IfOk result (λ name. (name ≡ text.now) × IsName text.now) }
+        ensures refused { IfErr result (λ fault. fault ≢ NameFault.Memory → name_fault text.now ≡ Some fault) }
+    {
+        if text.is_empty() {
+            return Err(NameFault::Empty);
+        }
+        if text.len() > 128 {
+            return Err(NameFault::TooLong);
+        }
+        if let Some(at) = bad_byte(text) {
+            return Err(NameFault::BadByte(at));
+        }
+        Ok(Name {
+            bytes: text.to_vec(alloc)?,
+        })
+    }
+
+    /// The bytes.
+    pub fn as_bytes(&self) -> &[u8]
+        ensures bytes { result.now ≡ self.now }
+        ensures name { IsName self.now }
+    {
+        &self.bytes
+    }
+
+    /// A copy.
+    pub fn copy(&self) -> Result<Self, AllocError>
+        ensures { IfOk result (λ name. name ≡ self.now) }
+    {
+        Ok(Name {
+            bytes: self.bytes.clone()?,
+        })
+    }
+}
+
+impl PartialEq for Name {
+    ghost eq = { pointwise nat_eq };
+
+    ghost laws = { partial_equiv_from_equiv nat_list_eq_equiv };
+
+    fn eq(&self, other: &Name) -> bool {
+        self.as_bytes() == other.as_bytes()
+    }
+}
+
+impl Eq for Name {
+    ghost laws = { nat_list_eq_equiv };
+}
+
+impl PartialOrd for Name {
+    ghost partial_cmp = { λ x y. Some (slice_cmp nat_cmp x y) };
+
+    ghost laws = { texts_po };
+
+    fn partial_cmp(&self, other: &Name) -> Option<Ordering> {
+        Some(self.cmp(other))
+    }
+}
+
+impl Ord for Name {
+    ghost cmp = { slice_cmp nat_cmp };
+
+    ghost total = { nat_list_cmp_total };
+
+    ghost matches_partial_cmp = { λ x y. refl };
+
+    ghost matches_eq = { texts_ties };
+
+    fn cmp(&self, other: &Name) -> Ordering {
+        self.as_bytes().cmp(other.as_bytes())
+    }
+}
+
+#[cfg(test)]
+mod tests {
+    use super::*;
+    use std::test::Fail;
+
+    #[test]
+    fn the_first_fault_of_a_name_is_told(rt: HostRuntime) -> Result<(), Fail> {
+        let long = [b'a'; 129];
+        let longest = Name::read(rt.alloc(), &long[..128])?;
+        assert_eq!(rt; longest.as_bytes().len(), 128);
+        let name = Name::read(rt.alloc(), b"a-1")?;
+        assert!(rt; name.copy()? == name);
+        let table: [(&[u8], NameFault); 5] = [
+            (b"", NameFault::Empty),
+            (&long, NameFault::TooLong),
+            (b"a b", NameFault::BadByte(1)),
+            (b"\x7f", NameFault::BadByte(0)),
+            (b"ab\n c", NameFault::BadByte(2)),
+        ];
+        for (text, fault) in table {
+            match Name::read(rt.alloc(), text) {
+                Ok(_) => assert!(rt; false, "a name is read"),
+                Err(found) => assert_eq!(rt; found, fault),
+            }
+        }
+        Ok(())
+    }
+}
