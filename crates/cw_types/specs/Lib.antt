@@ -2,3 +2,4 @@ pub mod Name
 pub mod Order
 pub mod Text
 pub mod Decimal
+pub mod Faults
