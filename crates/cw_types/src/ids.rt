@@ -87,12 +87,13 @@ pub struct Epoch(pub u64);
 /// A transaction: its producer's id and epoch, and a number that tells it from others of these.
 #[derive(Debug, PartialEq, Eq, PartialOrd, Ord, Drop)]
 pub struct Tag {
-    /// The producer's id.
-    pub tid: Tid,
+    /// The transaction's number under its producer's id and epoch. It stands first, so that tags are
+    /// ordered by it, which keeps those of a table in the order of their making.
+    pub number: u64,
     /// The producer's epoch.
     pub epoch: Epoch,
-    /// The transaction's number under that id and epoch.
-    pub number: u64,
+    /// The producer's id.
+    pub tid: Tid,
 }
 
 impl Tag {

@@ -1,0 +1,5 @@
+pub mod LineLemmas
+pub mod PlayLemmas
+pub mod Numbering
+pub mod SoFar
+pub mod Safety

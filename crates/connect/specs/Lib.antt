@@ -1,0 +1,9 @@
+pub mod Cuts
+pub mod Statuses
+pub mod Players
+pub mod Lines
+pub mod Answers
+pub mod Run
+pub mod Sessions
+pub mod Outcomes
+pub mod Drives

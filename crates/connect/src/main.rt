@@ -1,0 +1,35 @@
+//! `connect`: Kafka Connect's distributed mode over logs on files.
+//!
+//! The public call `connect` carries the theorem of the whole program: over the lines that it reads, its
+//! output is their answers, and behind each line the transactions are legal and every part chains.
+//! It stands on cw_script, cw_txn and cw_io; `main` makes the adapters and exits with the status's number.
+#![tactic(auto)]
+
+mod answer;
+mod drive;
+mod lines;
+mod player;
+mod session;
+mod status;
+mod top;
+
+pub use answer::{Answer, Committing};
+use cw_io::{ReaderSource, WriterSink};
+pub use status::Status;
+use std::process::ExitCode;
+use std::{env, io};
+pub use top::{Outcome, connect};
+
+fn main(rt: HostRuntime) -> io::Result<ExitCode> {
+    let mut words = Vec::new(rt.alloc());
+    for word in env::args(&rt)?.skip(1) {
+        words.push(word)?;
+    }
+    let mut input = ReaderSource::new(rt.reader());
+    let mut output = WriterSink::new(io::writer(&rt));
+    let status = connect(&rt, &words, &mut input, &mut output).status;
+    if status != Status::Done {
+        eprintln!(rt; "{status}")?;
+    }
+    Ok(ExitCode::from(status.number()))
+}

@@ -1,0 +1,57 @@
+-- The tables behind one entry more.
+use Rattle.std.proofs.Common.{◌≡◌, ℕ, ◌+◌, Bool, true, false, ◌||◌, cond, List, [], ◌∷◌, ◌++◌, Some, Option, unwrap_or, refl, sym, ap, ◌∙◌, arith}
+use Rattle.std.specs.List.{fold}
+use Rattle.std.specs.BTreeMap.{BTreeMap, get, is_at}
+use Rattle.cw_types.specs.declared.ids.Tid.{Tid}
+use Rattle.cw_types.specs.declared.ids.Tag.{Tag}
+use Rattle.cw_types.specs.declared.ids.PartKey.{PartKey}
+use Rattle.cw_types.specs.declared.ids.Span.{Span}
+use Rattle.cw_types.specs.declared.ids.Epoch.{Epoch}
+use Rattle.cw_txn.specs.declared.entry.Entry.{Entry}
+use Rattle.cw_txn.specs.declared.entry.Entry.TheVariants.{Bump, Commit, Set}
+use Rattle.cw_txn.specs.declared.entry.SetOffset.{SetOffset}
+use Rattle.cw_txn.specs.declared.tables.History.{History}
+use Rattle.cw_txn.specs.declared.tables.Tables.{Tables}
+use Rattle.cw_txn.specs.Same.{same_tid, same_tag, same_part}
+use Rattle.cw_txn.specs.Legal.{epoch_of, is_committed}
+use Rattle.cw_txn.specs.History.{history, after_span, after_offset}
+use Rattle.cw_txn.specs.Tables.{Keeps, epoch_at, committed_at, history_at, tid_order, tag_order}
+use Rattle.cw_txn.proofs.SameLemmas.{tid_at, same_tid-flip, same_tid-Decides, tag_at, same_tag-flip, same_tag-Decides}
+use Rattle.cw_txn.proofs.RowLemmas.{value-moved, value-set}
+use Rattle.cw_txn.proofs.Walks.{epoch_of-push, is_committed-push, history-push}
+
+raised : (b : Bool) (n : ℕ) → cond b (n + 1) n ≡ n + cond b 1 0
+raised true n = refl
+raised false n = omega arith
+
+found : (a b : Bool) → cond b true a ≡ (a || b)
+found true true = refl
+found true false = refl
+found false true = refl
+found false false = refl
+
+or_no : (b : Bool) → (b || false) ≡ b
+or_no true = refl
+or_no false = refl
+
+module _ (old : Tables) (entries : List Entry) (kept : Keeps old entries) where
+  pub keeps_bump : (epochs : BTreeMap Tid ℕ) (tid : Tid) (epoch : ℕ) → epoch ≡ epoch_at old.epochs tid
+      → ((q : Tid) → get tid_order epochs q ≡ cond (is_at (tid_order tid) q) (Some (epoch + 1)) (get tid_order old.epochs q))
+      → Keeps (record { epochs = epochs; committed = old.committed; parts = old.parts }) (entries ++ Bump tid ∷ [])
+  keeps_bump epochs tid epoch is set = record {
+    epochs = λ q. value-moved tid_order same_tid tid_at same_tid-flip same_tid-Decides 0 old.epochs epochs tid (epoch + 1) set (λ n. n + 1) (ap (λ n. n + 1) is) q
+        ∙ raised (same_tid q tid) (epoch_at old.epochs q) ∙ ap (λ n. n + cond (same_tid q tid) 1 0) (kept.epochs q) ∙ sym (epoch_of-push q entries (Bump tid));
+    committed = λ q. kept.committed q ∙ sym (is_committed-push q entries (Bump tid) ∙ or_no (is_committed q entries));
+    parts = λ q. kept.parts q ∙ sym (history-push q entries (Bump tid));
+  }
+
+  module _ (committed : BTreeMap Tag Bool) (parts : BTreeMap PartKey History) (tag : Tag) (generation : ℕ) (spans : List Span)
+      (set : (q : Tag) → get tag_order committed q ≡ cond (is_at (tag_order tag) q) (Some true) (get tag_order old.committed q))
+      (moved : (part : PartKey) → history_at parts part ≡ fold (after_span part) (history_at old.parts part) spans) where
+    pub keeps_commit : Keeps (record { epochs = old.epochs; committed = committed; parts = parts }) (entries ++ Commit tag generation spans ∷ [])
+    keeps_commit = record {
+      epochs = λ q. kept.epochs q ∙ omega (arith, epoch_of-push q entries (Commit tag generation spans));
+      committed = λ q. value-set tag_order same_tag tag_at same_tag-flip same_tag-Decides false old.committed committed tag true set q
+          ∙ found (committed_at old.committed q) (same_tag q tag) ∙ ap (λ (b : Bool). b || same_tag q tag) (kept.committed q) ∙ sym (is_committed-push q entries (Commit tag generation spans));
+      parts = λ q. moved q ∙ ap (λ (h : History). fold (after_span q) h spans) (kept.parts q) ∙ sym (history-push q entries (Commit tag generation spans));
+    }

@@ -1,0 +1,10 @@
+pub mod SameLemmas
+pub mod RowLemmas
+pub mod Walks
+pub mod Kept
+pub mod Equals
+pub mod Settled
+pub mod Chained
+pub mod Numbered
+pub mod Ended
+pub mod DistinctParts

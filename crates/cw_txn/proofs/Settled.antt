@@ -1,0 +1,82 @@
+-- The coordinator's invariant behind its steps.
+use Rattle.std.proofs.Common.{◌≡◌, ℕ, suc, ◌+◌, ◌≤◌, ◌<◌, List, [], ◌∷◌, ◌++◌, length, take, drop, get_or, slice_index_or, Contains, All, refl, sym, ap, subst, ◌∙◌, arith, length-append, drop-cons, add-one, ◌⊎◌, inl, inr, ⊎_elim}
+use Rattle.std.proofs.lemmas.List.{take-append-drop, get_or_default}
+use Rattle.std.proofs.lemmas.List.Elements.{All-weaker, Contains-push_cases, Contains-append_left, Contains-append_right, Contains-append_cases}
+use Rattle.cw_types.specs.declared.ids.PartKey.{PartKey}
+use Rattle.cw_types.specs.declared.ids.Span.{Span}
+use Rattle.cw_txn.specs.declared.entry.Entry.{Entry}
+use Rattle.cw_txn.specs.declared.entry.Entry.TheVariants.{Bump, Commit, Set}
+use Rattle.cw_txn.specs.declared.entry.SetOffset.{SetOffset}
+use Rattle.cw_txn.specs.declared.tables.Tables.{Tables}
+use Rattle.cw_txn.specs.Legal.{IsLegal, Chains, IsLegalBehind, ChainsBehind}
+use Rattle.cw_txn.specs.Transactions.{WithoutFirst}
+use Rattle.cw_txn.specs.Tables.{Keeps, HasRows, HasPart, KeepsRows, SameRows, IsFirstAt, IsCoordinator}
+use Rattle.cw_txn.proofs.Walks.{Each-push, cut_at}
+
+pub HasRows-kept : (old new : Tables) → KeepsRows old new → (entry : Entry) → HasRows old entry → HasRows new entry
+HasRows-kept old new keeps (Bump tid) has = keeps.epochs tid has
+HasRows-kept old new keeps (Commit tag generation spans) has =
+    (keeps.committed tag has.0, All-weaker (λ (span : Span). HasPart old.parts span.part) (λ (span : Span). HasPart new.parts span.part) (λ span. keeps.parts span.part) spans has.1)
+HasRows-kept old new keeps (Set tid epoch list) has =
+    All-weaker (λ (set : SetOffset). HasPart old.parts set.part) (λ (set : SetOffset). HasPart new.parts set.part) (λ set. keeps.parts set.part) list has
+
+module _ (tables : Tables) (entries reserved : List Entry) (capacity : ℕ) (was : IsCoordinator tables entries reserved capacity) where
+  -- with more room
+  pub roomier : (now : Tables) (same_entries : List Entry) (more : ℕ) → SameRows tables now → KeepsRows tables now → same_entries ≡ entries → capacity ≤ more → IsCoordinator now same_entries reserved more
+  roomier now same_entries more same keeps is grown = rw is record {
+    legal = was.legal;
+    chains = was.chains;
+    kept = record {
+      epochs = λ q. same.epochs q ∙ was.kept.epochs q;
+      committed = λ q. same.committed q ∙ was.kept.committed q;
+      parts = λ q. same.parts q ∙ was.kept.parts q;
+    };
+    rows = λ entry there. HasRows-kept tables now keeps entry (was.rows entry there);
+    room = omega (arith, was.room, grown);
+  }
+
+  -- with an entry reserved
+  pub reserved_one : (entry : Entry) (more : List Entry) → more ≡ reserved ++ entry ∷ [] → HasRows tables entry → length entries + (length reserved + 1) ≤ capacity → IsCoordinator tables entries more capacity
+  reserved_one entry more is has room = rw is record {
+    legal = was.legal;
+    chains = was.chains;
+    kept = was.kept;
+    rows = λ e there. ⊎_elim (λ old. was.rows e old) (λ (one : entry ≡ e). subst (λ (x : Entry). HasRows tables x) one has) (Contains-push_cases reserved entry e there);
+    room = simp length-append room;
+  }
+
+  -- with an entry written
+  pub settled : (now : Tables) (entry written : Entry) (longer held rest : List Entry) (more : ℕ) → longer ≡ entries ++ entry ∷ [] → Keeps now longer → KeepsRows tables now
+      → entries ≡ held → entry ≡ written → IsLegalBehind held written → ((part : PartKey) → ChainsBehind part held written)
+      → ((e : Entry) → Contains rest e → Contains reserved e) → length entries + 1 + length rest ≤ more
+      → IsCoordinator now longer rest more
+  settled now entry written longer held rest more is kept keeps same one legal chains fewer room = record {
+    legal = subst IsLegal (sym is) (Each-push IsLegalBehind entries entry was.legal
+        (subst (λ (e : Entry). IsLegalBehind entries e) (sym one) (subst (λ (l : List Entry). IsLegalBehind l written) (sym same) legal)));
+    chains = λ part. subst (Chains part) (sym is) (Each-push (ChainsBehind part) entries entry (was.chains part)
+        (subst (λ (e : Entry). ChainsBehind part entries e) (sym one) (subst (λ (l : List Entry). ChainsBehind part l written) (sym same) (chains part))));
+    kept = kept;
+    rows = λ e there. HasRows-kept tables now keeps e (was.rows e (fewer e there));
+    room = rw is (simp length-append room);
+  }
+
+-- what is taken from the first place of an entry is that entry
+pub taken_is : (entries : List Entry) (at : ℕ) (entry taken : Entry) → IsFirstAt entry entries at → taken ≡ slice_index_or entries at taken → taken ≡ entry
+taken_is entries at entry taken first is = is ∙ get_or_default entries at taken entry first.within ∙ first.there
+
+-- a list without its element at a place
+module _ (entries rest : List Entry) (at : ℕ) (taken : rest ≡ take at entries ++ drop (at + 1) entries) where
+  pub without : (entry : Entry) → IsFirstAt entry entries at → WithoutFirst entry entries rest
+  without entry first = record {
+    front = take at entries;
+    back = drop (at + 1) entries;
+    split = cut_at entries at entry first.within first.there;
+    first = first.first;
+    rest = taken;
+  }
+
+  pub fewer : (e : Entry) → Contains rest e → Contains entries e
+  fewer e there = ⊎_elim
+      (λ (front : Contains (take at entries) e). subst (λ (l : List Entry). Contains l e) (take-append-drop at entries) (Contains-append_left (take at entries) (drop at entries) e front))
+      (λ (back : Contains (drop (at + 1) entries) e). subst (λ (l : List Entry). Contains l e) (take-append-drop (at + 1) entries) (Contains-append_right (take (at + 1) entries) (drop (at + 1) entries) e back))
+      (Contains-append_cases (take at entries) (drop (at + 1) entries) e (subst (λ (l : List Entry). Contains l e) taken there))

@@ -1,0 +1,5 @@
+pub mod Same
+pub mod History
+pub mod Legal
+pub mod Transactions
+pub mod Tables

@@ -1,0 +1,103 @@
+-- What the coordinator's tables keep of its list, so that no look-up walks it. Internal: no public contract cites this.
+use Rattle.std.specs.Prelude.{◌≡◌, ℕ, ◌+◌, ◌≤◌, Bool, false, List, length, Contains, [], ◌∷◌, ◌&&◌, is_some, IsSome, unwrap_or, All, if◌then◌else◌, slice_index_or, take, ◌<◌}
+use Rattle.std.specs.Bool.{⊤}
+use Rattle.std.specs.Str.{bytes_eq}
+use Rattle.std.specs.BTreeMap.{BTreeMap, get}
+use Rattle.std.specs.declared.cmp.Ordering.{Ordering}
+use Rattle.cw_types.specs.declared.ids.Tid.{Tid}
+use Rattle.cw_types.specs.declared.ids.Tag.{Tag}
+use Rattle.cw_types.specs.declared.ids.PartKey.{PartKey}
+use Rattle.cw_types.specs.declared.ids.PartKey.TheVariants.{Raw, File, Seq, Sink}
+use Rattle.cw_types.specs.declared.ids.Span.{Span}
+use Rattle.cw_types.specs.contracts.ids.TidOrd.TheImpl as tid_ord
+use Rattle.cw_types.specs.contracts.ids.TagOrd.TheImpl as tag_ord
+use Rattle.cw_types.specs.contracts.ids.PartKeyOrd.TheImpl as part_ord
+use Rattle.cw_txn.specs.declared.entry.Entry.{Entry}
+use Rattle.cw_txn.specs.declared.entry.Entry.TheVariants.{Bump, Commit, Set}
+use Rattle.cw_txn.specs.declared.entry.SetOffset.{SetOffset}
+use Rattle.cw_txn.specs.declared.entry.EntryRef.{EntryRef}
+use Rattle.cw_txn.specs.declared.entry.EntryRef.TheVariants.{Bump as BumpRef, Commit as CommitRef, Set as SetRef}
+use Rattle.cw_txn.specs.declared.tables.History.{History}
+use Rattle.cw_txn.specs.declared.tables.Tables.{Tables}
+use Rattle.cw_txn.specs.History.{history, unset}
+use Rattle.cw_txn.specs.Legal.{epoch_of, is_committed, IsLegal, Chains}
+
+-- the entry that is borrowed in parts
+abbrev pub entry_of : EntryRef → Entry
+entry_of (BumpRef tid) = Bump tid.now
+entry_of (CommitRef tag generation spans) = Commit tag.now generation spans.now
+entry_of (SetRef tid epoch list) = Set tid.now epoch list.now
+
+-- the orders of the tables' keys
+abbrev pub tid_order : Tid → Tid → Ordering
+tid_order = tid_ord.cmp-value.it
+
+abbrev pub tag_order : Tag → Tag → Ordering
+tag_order = tag_ord.cmp-value.it
+
+abbrev pub part_order : PartKey → PartKey → Ordering
+part_order = part_ord.cmp-value.it
+
+-- what each table says of a key; a missing row reads as the value before the first entry
+abbrev pub epoch_at : BTreeMap Tid ℕ → Tid → ℕ
+epoch_at epochs tid = unwrap_or (get tid_order epochs tid) 0
+
+abbrev pub committed_at : BTreeMap Tag Bool → Tag → Bool
+committed_at committed tag = unwrap_or (get tag_order committed tag) false
+
+abbrev pub history_at : BTreeMap PartKey History → PartKey → History
+history_at parts part = unwrap_or (get part_order parts part) unset
+
+-- the tables are those of the entries
+pub record Keeps (tables : Tables) (entries : List Entry) : Type 0 where
+  pub epochs : (tid : Tid) → epoch_at tables.epochs tid ≡ epoch_of tid entries
+  pub committed : (tag : Tag) → committed_at tables.committed tag ≡ is_committed tag entries
+  pub parts : (part : PartKey) → history_at tables.parts part ≡ history part entries
+
+-- whether a part is a connector's
+abbrev pub is_of : List ℕ → PartKey → Bool
+is_of connector (Raw a) = false
+is_of connector (File a f) = bytes_eq a connector
+is_of connector (Seq a i) = bytes_eq a connector
+is_of connector (Sink a t) = bytes_eq a connector
+
+-- the connector's parts in a table that have an end
+abbrev pub parts_in : List ℕ → List (PartKey × History) → List PartKey
+parts_in connector [] = []
+parts_in connector (e ∷ es) = if is_some e.1.end && is_of connector e.0 then e.0 ∷ parts_in connector es else parts_in connector es
+
+-- a part has a row
+abbrev pub HasPart : BTreeMap PartKey History → PartKey → Type 0
+HasPart parts part = IsSome (get part_order parts part)
+
+-- each row that the entry changes is there
+abbrev pub HasRows : Tables → Entry → Type 0
+HasRows tables (Bump tid) = IsSome (get tid_order tables.epochs tid)
+HasRows tables (Commit tag generation spans) = IsSome (get tag_order tables.committed tag) × All (λ span. HasPart tables.parts span.part) spans
+HasRows tables (Set tid epoch list) = All (λ set. HasPart tables.parts set.part) list
+
+-- no row was lost
+pub record KeepsRows (old new : Tables) : Type 0 where
+  pub epochs : (tid : Tid) → IsSome (get tid_order old.epochs tid) → IsSome (get tid_order new.epochs tid)
+  pub committed : (tag : Tag) → IsSome (get tag_order old.committed tag) → IsSome (get tag_order new.committed tag)
+  pub parts : (part : PartKey) → HasPart old.parts part → HasPart new.parts part
+
+-- every table reads as before
+pub record SameRows (old new : Tables) : Type 0 where
+  pub epochs : (tid : Tid) → epoch_at new.epochs tid ≡ epoch_at old.epochs tid
+  pub committed : (tag : Tag) → committed_at new.committed tag ≡ committed_at old.committed tag
+  pub parts : (part : PartKey) → history_at new.parts part ≡ history_at old.parts part
+
+-- the first place of an entry in a list
+pub record IsFirstAt (entry : Entry) (entries : List Entry) (at : ℕ) : Type 0 where
+  pub within : at < length entries
+  pub there : slice_index_or entries at entry ≡ entry
+  pub first : ¬ Contains (take at entries) entry
+
+-- what every coordinator keeps: its list is legal and its parts chain, its tables are those of its list, and room is there for what is reserved
+pub record IsCoordinator (tables : Tables) (entries reserved : List Entry) (capacity : ℕ) : Type 0 where
+  pub legal : IsLegal entries
+  pub chains : (part : PartKey) → Chains part entries
+  pub kept : Keeps tables entries
+  pub rows : (entry : Entry) → Contains reserved entry → HasRows tables entry
+  pub room : length entries + length reserved ≤ capacity

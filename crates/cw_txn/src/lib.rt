@@ -1,0 +1,17 @@
+//! The transaction coordinator: epochs of producers, commits of spans, and set offsets (KIP-98, KIP-618).
+//!
+//! Its public contract says that its meaning is a list of entries, that this list is always legal and that
+//! every part's spans chain, and that a commit or a set is refused exactly where its epoch isn't the
+//! producer's last, whatever its generation.
+//! It stands on the ids and spans of `cw_types`.
+#![tactic(auto)]
+
+mod coordinator;
+mod entry;
+mod rows;
+mod tables;
+#[cfg(test)]
+mod tests;
+
+pub use coordinator::{Coordinator, TxnFault, raw_transactions_are_new};
+pub use entry::{Entry, SetOffset};

@@ -1,0 +1,236 @@
+//! What the coordinator keeps of its list, so that no look-up walks it.
+ghost use Rattle.std.specs.Prelude.{◌≡◌, ◌<◌, ◌+◌, ◌^◌, ◌-◌, ◌++◌, ◌∷◌, [], IfOk, OnOk, IsSome, Some, All, List};
+ghost use Rattle.std.specs.List.{fold};
+ghost use Rattle.std.specs.BTreeMap.{get, BTreeMap};
+ghost use Rattle.cw_types.specs.declared.ids.Tid.{Tid};
+ghost use Rattle.cw_types.specs.declared.ids.PartKey.{PartKey};
+ghost use Rattle.cw_txn.specs.declared.entry.Entry.{Entry};
+ghost use Rattle.cw_txn.specs.History.{after_span, after_offset};
+
+use crate::entry::{Entry, EntryRef, SetOffset};
+use crate::rows::{has_row, make_row, set_row, value_at};
+use cw_types::{Name, PartKey, Span, Tag, Tid};
+use std::alloc::{AllocError, Global};
+use std::collections::BTreeMap;
+
+/// What is committed of a part.
+#[derive(Clone, Copy, Debug, PartialEq, Eq, Drop)]
+pub struct History {
+    /// Where its offsets begin.
+    pub base: u64,
+    /// Where its last commit ended, if there is one.
+    pub end: Option<u64>,
+}
+
+impl History {
+    const UNSET: History = History { base: 0, end: None };
+}
+
+// The epoch of each producer, the committed transactions, and the history of each part.
+#[derive(Drop)]
+pub struct Tables {
+    pub epochs: BTreeMap<Tid, u64>,
+    pub committed: BTreeMap<Tag, bool>,
+    pub parts: BTreeMap<PartKey, History>,
+}
+
+impl Tables {
+    ghost use Rattle.cw_txn.specs.Tables.{epoch_at, committed_at, history_at, entry_of, parts_in, part_order, Keeps, HasRows, KeepsRows, SameRows};
+    ghost use Rattle.std.specs.BTreeMap.{IsOrdered};
+
+    pub fn new(alloc: Global) -> Tables
+        ensures { Keeps result [] }
+    {
+        Tables {
+            epochs: BTreeMap::new(alloc),
+            committed: BTreeMap::new(alloc),
+            parts: BTreeMap::new(alloc),
+        }
+    }
+
+    pub fn epoch(&self, tid: &Tid) -> u64
+        ensures { result ≡ epoch_at self.now.epochs tid.now }
+    {
+        value_at(&self.epochs, tid, 0)
+    }
+
+    pub fn is_committed(&self, tag: &Tag) -> bool
+        ensures { result ≡ committed_at self.now.committed tag.now }
+    {
+        value_at(&self.committed, tag, false)
+    }
+
+    pub fn history(&self, part: &PartKey) -> History
+        ensures { result ≡ history_at self.now.parts part.now }
+    {
+        value_at(&self.parts, part, History::UNSET)
+    }
+
+    // The parts of a connector that have an end.
+    pub fn parts_of(&self, alloc: Global, connector: &Name) -> Result<Vec<PartKey>, AllocError>
+        ensures listed { IfOk result (λ parts. parts.items ≡ parts_in connector.now self.now.parts.entries) }
+        ensures ordered { IsOrdered part_order self.now.parts }
+        ensures found { All (λ e. get part_order self.now.parts e.0 ≡ Some e.1) self.now.parts.entries }
+    {
+        let mut parts = Vec::new(alloc);
+        for (part, history) in self.parts.iter() {
+            if history.end.is_some() && is_of(part, connector) {
+                parts.push(part.copy()?)?;
+            }
+        }
+        Ok(parts)
+    }
+
+    // The rows that an entry changes, reading as before.
+    pub fn make_rows(&mut self, entry: &EntryRef<'_>) -> Result<(), AllocError>
+        ensures same { SameRows self.old self.new }
+        ensures kept { KeepsRows self.old self.new }
+        ensures there { OnOk result (HasRows self.new (entry_of entry.now)) }
+    {
+        match entry {
+            EntryRef::Bump(tid) => make_epoch(&mut self.epochs, tid),
+            EntryRef::Commit { tag, spans, .. } => {
+                make_tag(&mut self.committed, tag)?;
+                make_span_parts(&mut self.parts, spans)?;
+                Ok(())
+            }
+            EntryRef::Set { list, .. } => {
+                make_set_parts(&mut self.parts, list)?;
+                Ok(())
+            }
+        }
+    }
+
+    // One entry more.
+    pub fn add(&mut self, entry: &Entry)
+        requires rows { HasRows self.old entry.now }
+        requires small { (tid : Tid) → epoch_at self.old.epochs tid + 1 < 2 ^ 64 }
+        ensures kept { (entries : List Entry) → Keeps self.old entries → Keeps self.new (entries ++ entry.now ∷ []) }
+        ensures rows { KeepsRows self.old self.new }
+    {
+        match entry {
+            Entry::Bump(tid) => {
+                let epoch = self.epoch(tid);
+                set_row(&mut self.epochs, tid, epoch + 1);
+            }
+            Entry::Commit { tag, spans, .. } => {
+                set_row(&mut self.committed, tag, true);
+                move_ends(&mut self.parts, spans.as_slice());
+            }
+            Entry::Set { list, .. } => set_histories(&mut self.parts, list.as_slice()),
+        }
+    }
+}
+
+ghost use Rattle.cw_txn.specs.Tables.{epoch_at, committed_at, history_at, tid_order, tag_order, is_of, HasPart};
+ghost use Rattle.cw_types.specs.declared.ids.Tag.{Tag};
+ghost use Rattle.std.specs.Str.{bytes_eq};
+
+fn is_of(part: &PartKey, connector: &Name) -> bool
+    ensures { result ≡ is_of connector.now part.now }
+{
+    match part {
+        PartKey::Raw(_) => false,
+        PartKey::File { connector: owner, .. } => same_names(owner, connector),
+        PartKey::Seq { connector: owner, .. } => same_names(owner, connector),
+        PartKey::Sink { connector: owner, .. } => same_names(owner, connector),
+    }
+}
+
+fn same_names(a: &Name, b: &Name) -> bool
+    ensures { result ≡ bytes_eq a.now b.now }
+{
+    a == b
+}
+
+fn make_epoch(epochs: &mut BTreeMap<Tid, u64>, tid: &Tid) -> Result<(), AllocError>
+    ensures same { (q : Tid) → epoch_at epochs.new q ≡ epoch_at epochs.old q }
+    ensures kept { (q : Tid) → IsSome (get tid_order epochs.old q) → IsSome (get tid_order epochs.new q) }
+    ensures there { OnOk result (IsSome (get tid_order epochs.new tid.now)) }
+{
+    if has_row(epochs, tid) {
+        return Ok(());
+    }
+    make_row(epochs, tid.copy()?, 0)
+}
+
+fn make_tag(committed: &mut BTreeMap<Tag, bool>, tag: &Tag) -> Result<(), AllocError>
+    ensures same { (q : Tag) → committed_at committed.new q ≡ committed_at committed.old q }
+    ensures kept { (q : Tag) → IsSome (get tag_order committed.old q) → IsSome (get tag_order committed.new q) }
+    ensures there { OnOk result (IsSome (get tag_order committed.new tag.now)) }
+{
+    if has_row(committed, tag) {
+        return Ok(());
+    }
+    make_row(committed, tag.copy()?, false)
+}
+
+fn make_part(parts: &mut BTreeMap<PartKey, History>, part: &PartKey) -> Result<(), AllocError>
+    ensures same { (q : PartKey) → history_at parts.new q ≡ history_at parts.old q }
+    ensures kept { (q : PartKey) → HasPart parts.old q → HasPart parts.new q }
+    ensures there { OnOk result (HasPart parts.new part.now) }
+{
+    if has_row(parts, part) {
+        return Ok(());
+    }
+    make_row(parts, part.copy()?, History::UNSET)
+}
+
+fn make_span_parts(parts: &mut BTreeMap<PartKey, History>, spans: &[Span]) -> Result<(), AllocError>
+    ensures same { (q : PartKey) → history_at parts.new q ≡ history_at parts.old q }
+    ensures kept { (q : PartKey) → HasPart parts.old q → HasPart parts.new q }
+    ensures there { OnOk result (All (λ span. HasPart parts.new span.part) spans.now) }
+{
+    for span in spans {
+        make_part(parts, &span.part)?;
+    }
+    Ok(())
+}
+
+fn make_set_parts(parts: &mut BTreeMap<PartKey, History>, list: &[SetOffset]) -> Result<(), AllocError>
+    ensures same { (q : PartKey) → history_at parts.new q ≡ history_at parts.old q }
+    ensures kept { (q : PartKey) → HasPart parts.old q → HasPart parts.new q }
+    ensures there { OnOk result (All (λ set. HasPart parts.new set.part) list.now) }
+{
+    for set in list {
+        make_part(parts, &set.part)?;
+    }
+    Ok(())
+}
+
+fn move_end(parts: &mut BTreeMap<PartKey, History>, span: &Span)
+    requires { HasPart parts.old span.now.part }
+    ensures moved { (part : PartKey) → history_at parts.new part ≡ after_span part (history_at parts.old part) span.now }
+    ensures kept { (q : PartKey) → HasPart parts.old q → HasPart parts.new q }
+{
+    let was = value_at(parts, &span.part, History::UNSET);
+    set_row(parts, &span.part, History { base: was.base, end: Some(span.to) });
+}
+
+fn move_ends(parts: &mut BTreeMap<PartKey, History>, spans: &[Span])
+    requires { All (λ span. HasPart parts.old span.part) spans.now }
+    ensures moved { (part : PartKey) → history_at parts.new part ≡ fold (after_span part) (history_at parts.old part) spans.now }
+    ensures kept { (q : PartKey) → HasPart parts.old q → HasPart parts.new q }
+{
+    for span in spans {
+        move_end(parts, span);
+    }
+}
+
+fn set_history(parts: &mut BTreeMap<PartKey, History>, set: &SetOffset)
+    requires { HasPart parts.old set.now.part }
+    ensures moved { (part : PartKey) → history_at parts.new part ≡ after_offset part (history_at parts.old part) set.now }
+    ensures kept { (q : PartKey) → HasPart parts.old q → HasPart parts.new q }
+{
+    set_row(parts, &set.part, History { base: set.to.unwrap_or(0), end: set.to });
+}
+
+fn set_histories(parts: &mut BTreeMap<PartKey, History>, list: &[SetOffset])
+    requires { All (λ set. HasPart parts.old set.part) list.now }
+    ensures moved { (part : PartKey) → history_at parts.new part ≡ fold (after_offset part) (history_at parts.old part) list.now }
+    ensures kept { (q : PartKey) → HasPart parts.old q → HasPart parts.new q }
+{
+    for set in list {
+        set_history(parts, set);
+    }
+}

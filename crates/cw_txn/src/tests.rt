@@ -1,0 +1,139 @@
+//! Runs of the coordinator against answers that come from an independent model.
+use crate::{Coordinator, Entry, SetOffset, TxnFault};
+use cw_types::{Decided, Epoch, Listed, Name, PartKey, Span, Tag, TaskId, Tid, Verdict};
+use std::process::Abort;
+use std::test::Fail;
+
+fn tag(id: u32, epoch: u64, number: u64) -> Tag {
+    Tag {
+        tid: Tid::Raw(id),
+        epoch: Epoch(epoch),
+        number,
+    }
+}
+
+fn span(part: u32, from: u64, to: u64) -> Span {
+    Span {
+        part: PartKey::Raw(part),
+        from,
+        to,
+    }
+}
+
+// A commit whose conditions the test itself vouches for.
+fn commit(rt: &impl Abort, txn: &mut Coordinator, tag: &Tag, generation: u64, spans: &[Span]) -> Result<(), TxnFault> {
+    assert!(rt; !txn.is_committed(tag));
+    assert!(rt; txn.are_next(spans));
+    txn.commit(tag, generation, spans)
+}
+
+#[test]
+fn fenced_producer_is_refused(rt: HostRuntime) -> Result<(), Fail> {
+    let mut txn = Coordinator::new(rt.alloc());
+    let id = Tid::Raw(2);
+    assert!(rt; txn.bump(&id) == Ok(Epoch(1)));
+    assert!(rt; txn.bump(&id) == Ok(Epoch(2)));
+    // (epoch, number, generation, from, to) and the answer
+    let table = [
+        (1, 2, 0, 0, 5, Err(TxnFault::Fenced { current: 2 })),
+        (2, 2, 9, 0, 5, Ok(())),
+        (3, 3, 9, 5, 10, Err(TxnFault::Fenced { current: 2 })),
+        (2, 3, 4, 5, 9, Ok(())),
+    ];
+    for (epoch, number, generation, from, to, answer) in table {
+        assert!(rt; commit(&rt, &mut txn, &tag(2, epoch, number), generation, &[span(0, from, to)]) == answer);
+    }
+    assert_eq!(rt; txn.length(), 4);
+    assert_eq!(rt; txn.epoch_of(&id), 2);
+    assert_eq!(rt; txn.end_of(&PartKey::Raw(0)), Some(9));
+    assert!(rt; txn.verdict(&tag(2, 1, 2)) == Verdict::Aborted);
+    assert!(rt; txn.verdict(&tag(2, 2, 2)) == Verdict::Committed);
+    assert!(rt; txn.verdict(&tag(2, 3, 3)) == Verdict::Open);
+    Ok(())
+}
+
+#[test]
+fn set_offset_is_base_and_end_and_none_begins_anew(rt: HostRuntime) -> Result<(), Fail> {
+    let mut txn = Coordinator::new(rt.alloc());
+    let connector = Name::read(rt.alloc(), b"a")?;
+    let part = PartKey::File {
+        connector: connector.copy()?,
+        feed: Name::read(rt.alloc(), b"orders")?,
+    };
+    let task = Tid::Task(TaskId {
+        connector: connector.copy()?,
+        index: 0,
+    });
+    assert!(rt; txn.bump(&Tid::Lead) == Ok(Epoch(1)));
+    assert!(rt; txn.bump(&task) == Ok(Epoch(1)));
+    // (offset that is set, end of the next commit) and base and end behind both
+    let table = [
+        (Some(6), 10, 6, Some(10)),
+        (None, 0, 0, None),
+        (None, 9, 0, Some(9)),
+        (Some(0), 0, 0, Some(0)),
+    ];
+    for (to, next, base, end) in table {
+        let set = SetOffset {
+            part: part.copy()?,
+            to,
+        };
+        assert!(rt; txn.set(&Tid::Lead, Epoch(1), &[set.copy()?]) == Ok(()));
+        assert!(rt; txn.set(&Tid::Lead, Epoch(2), &[set]) == Err(TxnFault::Fenced { current: 1 }));
+        assert!(rt; txn.end_of(&part) == to);
+        let transaction = Tag {
+            tid: task.copy()?,
+            epoch: Epoch(1),
+            number: txn.length(),
+        };
+        let spans = [Span {
+            part: part.copy()?,
+            from: to.unwrap_or(0),
+            to: next,
+        }];
+        if txn.are_next(&spans) {
+            assert!(rt; commit(&rt, &mut txn, &transaction, 0, &spans) == Ok(()));
+        }
+        assert_eq!(rt; txn.base_of(&part), base);
+        assert!(rt; txn.end_of(&part) == end);
+        assert_eq!(rt; txn.parts_of(&connector)?.len(), if end.is_some() { 1 } else { 0 });
+    }
+    assert_eq!(rt; txn.length(), 8);
+    Ok(())
+}
+
+#[test]
+fn sixteen_parts_are_committed_at_once_and_none_twice(rt: HostRuntime) -> Result<(), Fail> {
+    let mut txn = Coordinator::new(rt.alloc());
+    let mut spans = Vec::new(rt.alloc());
+    for part in 0..16 {
+        spans.push(span(part, 0, 1))?;
+    }
+    assert!(rt; commit(&rt, &mut txn, &tag(7, 0, 0), u64::MAX, spans.as_slice()) == Ok(()));
+    assert_eq!(rt; txn.end_of(&PartKey::Raw(15)), Some(1));
+    assert!(rt; !txn.are_next(spans.as_slice()));
+    assert!(rt; !txn.are_next(&[span(0, 1, 2), span(0, 2, 3)]));
+    assert!(rt; !txn.are_next(&[span(0, 1, 1)]));
+    assert!(rt; txn.are_next(&[span(4294967295, 0, u64::MAX)]));
+    Ok(())
+}
+
+#[test]
+fn reserved_entries_are_written_and_given_up(rt: HostRuntime) -> Result<(), Fail> {
+    let mut txn = Coordinator::new(rt.alloc());
+    let mut spans = Vec::new(rt.alloc());
+    spans.push(span(3, 0, 4))?;
+    txn.reserve(&Entry::Bump(Tid::Raw(1)))?;
+    txn.reserve(&Entry::Commit {
+        tag: tag(1, 1, 1),
+        generation: 0,
+        spans: Listed::new(spans),
+    })?;
+    assert_eq!(rt; txn.length(), 0);
+    assert!(rt; txn.bump(&Tid::Raw(1)) == Ok(Epoch(1)));
+    assert!(rt; commit(&rt, &mut txn, &tag(1, 1, 1), 0, &[span(3, 0, 4)]) == Ok(()));
+    txn.release();
+    assert_eq!(rt; txn.entries().len(), 2);
+    assert!(rt; txn.is_committed(&tag(1, 1, 1)));
+    Ok(())
+}
