@@ -13,3 +13,6 @@ mod traits;
 pub use memory::{MemSink, MemSource};
 pub use standard::{ReaderSource, WriterSink};
 pub use traits::{Failed, Sink, Source, write_all};
+
+#[cfg(test)]
+mod tests;

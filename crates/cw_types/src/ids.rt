@@ -213,6 +213,7 @@ pub fn tid_text(alloc: Global, group: &Name, tid: &Tid) -> Result<Vec<u8>, Alloc
 #[cfg(test)]
 mod tests {
     use super::*;
+    use crate::listed::Listed;
     use std::test::Fail;
 
     #[test]
@@ -254,6 +255,9 @@ mod tests {
             to: 2,
         };
         assert!(rt; span.copy()? == span);
+        let numbers = Listed::new(vec![in rt.alloc(); 7u8, 8]?);
+        assert_eq!(rt; numbers.as_slice(), [7, 8].as_slice());
+        assert_eq!(rt; numbers.into_vec().as_slice(), [7, 8].as_slice());
         Ok(())
     }
 }
