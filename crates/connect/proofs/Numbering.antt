@@ -1,7 +1,7 @@
 -- The number of each transaction of a run is its place in the list, so none is committed twice.
-use Rattle.std.proofs.Common.{◌≡◌, ℕ, ◌+◌, ◌<◌, ◌≤◌, List, [], ◌∷◌, ◌++◌, length, map, nat_le, nat_eq, ◌==◌, Bool, true, false, cond, Option, Some, None, Result, Ok, Err, OnOk, OnErr, find, All, refl, sym, ap, subst, ◌∙◌, arith, append_assoc, unwrap_or}
+use Rattle.std.proofs.Common.{◌≡◌, ℕ, List, [], ◌∷◌, length, map, nat_eq, ◌==◌, Bool, true, false, cond, Some, None, Result, Ok, Err, OnOk, OnErr, find, All, refl, sym, subst, ◌∙◌, arith}
 use Rattle.std.specs.List.{AllByRecursion, IsDistinct}
-use Rattle.std.proofs.lemmas.List.{append-nil, length-map}
+use Rattle.std.proofs.lemmas.List.{length-map}
 use Rattle.std.proofs.lemmas.List.Elements.{All-cons, All-nil}
 use Rattle.std.proofs.lemmas.Bool.Decides.{nat_tests}
 use Rattle.cw_types.specs.declared.ids.PartKey.TheVariants.{Raw}
@@ -9,7 +9,7 @@ use Rattle.cw_types.specs.declared.ids.Span.{Span}
 use Rattle.cw_txn.specs.declared.entry.Entry.{Entry}
 use Rattle.cw_txn.specs.Transactions.{Transactions, Appends}
 use Rattle.cw_txn.specs.Same.{same_part}
-use Rattle.cw_txn.specs.History.{history, end_of, GoesOn}
+use Rattle.cw_txn.specs.History.{history, GoesOn}
 use Rattle.cw_txn.specs.Legal.{AreNumbered, IsNumberedBehind}
 use Rattle.cw_txn.specs.Transactions.{AreNext}
 use Rattle.cw_txn.proofs.Walks.{Each-push}

@@ -1,5 +1,5 @@
 -- How a script is played line by line.
-use Rattle.std.proofs.Common.{◌≡◌, ℕ, ◌+◌, ◌<◌, ◌≤◌, List, [], ◌∷◌, ◌++◌, length, nat_lt, Bool, true, false, cond, Option, Some, None, Result, Ok, Err, OnOk, IfErr, refl, sym, ap, subst, ◌∙◌, arith, append_assoc, length-append}
+use Rattle.std.proofs.Common.{◌≡◌, ℕ, ◌+◌, ◌<◌, ◌≤◌, List, [], ◌∷◌, ◌++◌, length, nat_lt, Bool, true, false, Option, Some, None, Result, Ok, Err, OnOk, IfErr, refl, sym, ap, subst, ◌∙◌, arith, append_assoc, length-append}
 use Rattle.std.proofs.lemmas.List.{append-nil}
 use Rattle.std.proofs.lemmas.Bool.Decides.{nat_tests}
 use Rattle.cw_txn.specs.declared.entry.Entry.{Entry}
@@ -10,10 +10,10 @@ use Rattle.cw_script.specs.declared.fault.LineKind.{LineKind}
 use Rattle.cw_script.specs.Lines.{line_of}
 use Rattle.connect.specs.Lines.{lines_of, is_line}
 use Rattle.connect.specs.Run.{Played, passed, stopped, with_front, goes_on, behind, within_limits, play_reading, play_line, play_last, play}
-use Rattle.connect.specs.Outcomes.{IsPrefix, Plays}
+use Rattle.connect.specs.Outcomes.{Plays}
 use Rattle.connect.specs.Players.{PlayerState, HasPlayed, HasEnded, HasStopped}
 use Rattle.connect.specs.Sessions.{Stops}
-use Rattle.connect.proofs.LineLemmas.{lines_of-line, lines_of-alone, is_line-append, Begins, begins_any, begins}
+use Rattle.connect.proofs.LineLemmas.{lines_of-line, lines_of-alone, is_line-append, begins_any, begins}
 
 -- a whole line, and then what is behind it
 pub play-line : (ended : Bool) (number : ℕ) (l more : List ℕ) (entries : List Entry)

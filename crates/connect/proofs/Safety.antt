@@ -1,5 +1,5 @@
 -- Behind each line of a script the transactions are legal and every part chains.
-use Rattle.std.proofs.Common.{◌≡◌, ℕ, ◌+◌, ◌==◌, List, [], ◌∷◌, ◌++◌, length, map, find, Bool, true, false, cond, nat_lt, Option, Some, None, Result, Ok, Err, refl, sym, ap, subst, ◌∙◌, arith}
+use Rattle.std.proofs.Common.{◌≡◌, ℕ, ◌+◌, ◌==◌, List, [], ◌∷◌, ◌++◌, length, map, find, Bool, true, false, cond, nat_lt, Option, Some, None, Result, Ok, Err, refl, arith}
 use Rattle.std.proofs.lemmas.Bool.Decides.{nat_tests}
 use Rattle.cw_types.specs.declared.ids.Tid.TheVariants.{Raw as RawId}
 use Rattle.cw_types.specs.declared.ids.PartKey.{PartKey}
@@ -23,7 +23,7 @@ use Rattle.connect.specs.declared.answer.Answer.TheVariants.{Fenced}
 use Rattle.connect.specs.declared.answer.Committing.{Committing}
 use Rattle.connect.specs.declared.status.Status.{Status}
 use Rattle.connect.specs.Cuts.{committing, is_bad_cut, span_of}
-use Rattle.connect.specs.Run.{Played, passed, with_front, goes_on, behind, within_limits, commit_entry, cut_answer, commit_answer, answer_of, play_answer, play_reading, play_line, play_last, play, entries_behind}
+use Rattle.connect.specs.Run.{Played, passed, goes_on, within_limits, commit_entry, cut_answer, answer_of, play_answer, play_reading, play_line, play_last, play, entries_behind}
 use Rattle.connect.specs.Outcomes.{IsSafe}
 use Rattle.connect.proofs.Numbering.{are_next}
 

@@ -1,5 +1,5 @@
 -- The answer lines of a run. Their texts are this project's own.
-use Rattle.std.specs.Prelude.{ℕ, List, [], ◌∷◌, ◌++◌, codes, decimal}
+use Rattle.std.specs.Prelude.{ℕ, List, ◌++◌, codes, decimal}
 use Rattle.std.specs.List.{flat_map}
 use Rattle.connect.specs.declared.answer.Answer.{Answer}
 use Rattle.connect.specs.declared.answer.Answer.TheVariants.{Epoch, Committed, Fenced, BadCut}

@@ -1,5 +1,5 @@
 -- A commit of a script names parts and their new ends; each begins at its part's end. This project's own.
-use Rattle.std.specs.Prelude.{ℕ, Bool, List, nat_le, unwrap_or}
+use Rattle.std.specs.Prelude.{Bool, List, nat_le, unwrap_or}
 use Rattle.cw_types.specs.declared.ids.PartKey.TheVariants.{Raw}
 use Rattle.cw_types.specs.declared.ids.Span.{Span}
 use Rattle.cw_txn.specs.declared.entry.Entry.{Entry}

@@ -1,6 +1,6 @@
 -- How a run of `drive` ended, over the bytes that it read: all answers where nothing failed, else those before the
 -- failure. This project's own rule.
-use Rattle.std.specs.Prelude.{◌≡◌, ℕ, Bool, true, false, List, [], ◌∷◌, ◌++◌, codes, Option, Some, None}
+use Rattle.std.specs.Prelude.{◌≡◌, ℕ, Bool, false, List, [], ◌∷◌, ◌++◌, codes, Option, Some, None}
 use Rattle.std.specs.Str.{bytes_eq}
 use Rattle.std.specs.Option.{option_map}
 use Rattle.cw_types.specs.declared.ids.PartKey.{PartKey}

@@ -1,5 +1,5 @@
 -- What clauses see of a player: the transactions, and the text of the answers that it holds.
-use Rattle.std.specs.Prelude.{◌≡◌, ℕ, List, [], ◌++◌, Option, Some, None}
+use Rattle.std.specs.Prelude.{◌≡◌, ℕ, List, [], ◌++◌, Some, None}
 use Rattle.cw_txn.specs.declared.entry.Entry.{Entry}
 use Rattle.connect.specs.declared.answer.Answer.{Answer}
 use Rattle.connect.specs.declared.status.Status.{Status}

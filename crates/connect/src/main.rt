@@ -33,3 +33,6 @@ fn main(rt: HostRuntime) -> io::Result<ExitCode> {
     }
     Ok(ExitCode::from(status.number()))
 }
+
+#[cfg(test)]
+mod tests;

@@ -1,13 +1,12 @@
 //! The reading of a line.
-ghost use Rattle.std.specs.Prelude.{◌≡◌, ◌≢◌, ◌==◌, ◌++◌, ◌∷◌, ◌<◌, ◌≤◌, ◌-◌, ◌^◌, [], List, ℕ, Some, None, Ok, Err, map, length, drop, codes, IfOk, IfErr, IfSome, MatchOption};
+ghost use Rattle.std.specs.Prelude.{◌≡◌, ◌≢◌, ◌==◌, ◌++◌, ◌∷◌, ◌<◌, ◌≤◌, ◌-◌, ◌^◌, [], Ok, map, length, drop, codes, IfOk, IfErr, IfSome, MatchOption};
 ghost use Rattle.std.specs.Option.{option_map};
 ghost use Rattle.std.specs.List.{list_any};
 ghost use Rattle.cw_types.specs.Decimal.{number_of};
-ghost use Rattle.cw_types.specs.Name.{name_fault};
 ghost use Rattle.cw_script.specs.Words.{words, words_behind, joined, now_of};
 ghost use Rattle.cw_script.specs.Pairs.{add_pair, pairs_of};
 ghost use Rattle.cw_script.specs.Table.{number32, number64, limit, log, name};
-ghost use Rattle.cw_script.specs.Lines.{or_fault, only, value_of, name_of, log_of, directive_of, line_of};
+ghost use Rattle.cw_script.specs.Lines.{only, value_of, directive_of, line_of};
 ghost use Rattle.cw_script.specs.Spelling.{IsSayable};
 ghost use Rattle.cw_script.specs.Faults.{TellsFault};
 
@@ -17,7 +16,10 @@ use crate::words::{cut, next_word, words_of};
 use cw_types::{Listed, LogName, Name, NameFault, read_u32, read_u64};
 use std::alloc::{AllocError, Global};
 
-/// What a line of a script says, its `\n` left out: nothing where it is passed over.
+/// What a line of a script says, its `\n` left out. An empty line and one that begins with `#` are passed
+/// over, and say nothing. `BadLine` repeats `number` and tells the first fault: the first word is no
+/// directive's; the number of words isn't that directive's; a word, judged from left to right, isn't what
+/// stands there or is out of its range. `Memory` comes where there is none for what the line says.
 pub fn read_line(alloc: Global, line: &[u8], number: u64) -> Result<Option<Directive>, ScriptFault>
     ensures ok { IfOk result (λ directive. line_of line.now ≡ Ok directive) }
     ensures sayable { IfOk result (λ directive. IfSome directive IsSayable) }

@@ -1,5 +1,5 @@
 -- A commit whose spans have distinct parts, each from its part's end, chains.
-use Rattle.std.proofs.Common.{◌≡◌, ℕ, Bool, true, false, cond, List, [], ◌∷◌, All, map, Some, refl, sym, ap, subst, ◌∙◌}
+use Rattle.std.proofs.Common.{◌≡◌, Bool, true, false, cond, List, [], ◌∷◌, All, map, Some, refl, sym, subst}
 use Rattle.std.specs.List.{IsDistinct, AllByRecursion}
 use Rattle.std.proofs.lemmas.List.Elements.{All-head, All-tail}
 use Rattle.std.proofs.lemmas.Map.Keys.{IsDistinct-head, IsDistinct-tail}
@@ -28,8 +28,9 @@ module _ (part : PartKey) (before : PartKey → History) where
 
   pub spans_chain : (spans : List Span) → IsDistinct same_part (map part_of spans) → All (λ span. GoesOn (before span.part) span) spans → SpansChain part (before part) spans
   spans_chain [] distinct each = tt
-  spans_chain (span ∷ spans) distinct each =
-      (λ same. subst (λ (q : PartKey). GoesOn (before q) span) (sym ((same_part-Decides part span.part).0 same)) (All-head (λ (s : Span). GoesOn (before s.part) s) span spans each),
-       behind span spans (IsDistinct-head same_part span.part (map part_of spans) distinct)
-          (spans_chain spans (IsDistinct-tail same_part span.part (map part_of spans) distinct) (All-tail (λ (s : Span). GoesOn (before s.part) s) span spans each))
-          (same_part part span.part) refl)
+  spans_chain (span ∷ spans) distinct each = (
+    λ same. subst (λ (q : PartKey). GoesOn (before q) span) (sym ((same_part-Decides part span.part).0 same)) (All-head (λ (s : Span). GoesOn (before s.part) s) span spans each),
+    behind span spans (IsDistinct-head same_part span.part (map part_of spans) distinct)
+        (spans_chain spans (IsDistinct-tail same_part span.part (map part_of spans) distinct) (All-tail (λ (s : Span). GoesOn (before s.part) s) span spans each))
+        (same_part part span.part) refl,
+  )

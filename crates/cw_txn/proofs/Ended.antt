@@ -1,5 +1,5 @@
 -- The parts of a connector that a table has, against those that the list has.
-use Rattle.std.proofs.Common.{◌≡◌, ℕ, Bool, true, false, ◌&&◌, cond, List, [], ◌∷◌, ◌++◌, Option, Some, None, unwrap_or, is_some, IsSome, All, Contains, refl, sym, ap, subst, ◌∙◌, arith, Ordering}
+use Rattle.std.proofs.Common.{◌≡◌, ℕ, Bool, true, false, ◌&&◌, cond, List, [], ◌∷◌, Option, Some, None, unwrap_or, is_some, IsSome, All, Contains, refl, sym, ap, ◌∙◌, arith}
 use Rattle.std.specs.declared.cmp.Ordering.TheVariants.{Less}
 use Rattle.std.specs.Ordering.{is_eq}
 use Rattle.std.specs.Bool.{Decides}
@@ -8,7 +8,7 @@ use Rattle.std.specs.List.{AllByRecursion, IsDistinct}
 use Rattle.std.specs.List.Sorted.{IsStrictlySortedBy}
 use Rattle.std.specs.Map.{keys_of, lookup}
 use Rattle.std.specs.BTreeMap.{BTreeMap, get, is_at, IsOrdered}
-use Rattle.std.proofs.lemmas.Bool.Decides.{Decides-like, not_from_Decides}
+use Rattle.std.proofs.lemmas.Bool.Decides.{Decides-like}
 use Rattle.std.proofs.lemmas.Slice.Eq.{bytes_eq-Decides}
 use Rattle.std.proofs.lemmas.List.Elements.{All-from_recursion, recursion_from_All, All-contains, Contains-append_right}
 use Rattle.std.proofs.lemmas.Map.Keys.{sorted_head, sorted_tail, IsDistinct-cons}
@@ -77,9 +77,11 @@ module _ (connector : List ℕ) where
     behind : (b : Bool) → Contains (parts_in connector es) part → Contains (cond b (e.0 ∷ parts_in connector es) (parts_in connector es)) part
     behind true there = one_more e.0 (parts_in connector es) part there
     behind false there = there
+
     first : (b : Bool) → b ≡ true → part ≡ e.0 → Contains (cond b (e.0 ∷ parts_in connector es) (parts_in connector es)) part
     first true is same = (0, omega arith, sym same)
     first false is same = cc
+
     here : (b : Bool) → is_at (part_order part) e.0 ≡ b → cond b (Some e.1) (lookup (is_at (part_order part)) es) ≡ Some h → (lookup (is_at (part_order part)) es ≡ Some h → Contains (parts_in connector es) part) → Contains (cond (taken e) (e.0 ∷ parts_in connector es) (parts_in connector es)) part
     here true at found rest =
         let same : part ≡ e.0 = (same_part-Decides part e.0).0 (sym (part_at part e.0) ∙ at) in
@@ -97,19 +99,20 @@ module _ (connector : List ℕ) where
     row_of part None is ended =
         let none : history part entries ≡ unset = sym (kept part) ∙ ap (λ o. unwrap_or o unset) is in
         absurd (apart_bools (ap (λ (x : History). is_some x.end) (sym none) ∙ ended)) where
-      apart_bools : false ≡ true → ⊥
-      apart_bools e = cc
+          apart_bools : false ≡ true → ⊥
+          apart_bools e = cc
 
     theirs : AllByRecursion (λ part. (connector_of part ≡ Some connector) × IsSome (end_of part entries)) (parts_in connector table.entries)
     theirs = all_taken (λ part. (connector_of part ≡ Some connector) × IsSome (end_of part entries)) table.entries
         (own table.entries (recursion_from_All (λ e. get part_order table e.0 ≡ Some e.1) table.entries found)) where
-      own : (es : List (PartKey × History)) → AllByRecursion (λ e. get part_order table e.0 ≡ Some e.1) es
-          → AllByRecursion (λ e. taken e ≡ true → (connector_of e.0 ≡ Some connector) × IsSome (end_of e.0 entries)) es
-      own [] rows = tt
-      own (e ∷ es) rows =
-          (λ is. let both = and_both (is_some e.1.end) (is_of connector e.0) is in
-                 ((is_of-Decides connector e.0).0 both.1, ap (λ (x : History). is_some x.end) (of_row e.0 e.1 rows.0) ∙ both.0),
-           own es rows.1)
+          own : (es : List (PartKey × History)) → AllByRecursion (λ e. get part_order table e.0 ≡ Some e.1) es
+              → AllByRecursion (λ e. taken e ≡ true → (connector_of e.0 ≡ Some connector) × IsSome (end_of e.0 entries)) es
+          own [] rows = tt
+          own (e ∷ es) rows = (
+            λ is. let both = and_both (is_some e.1.end) (is_of connector e.0) is in
+                ((is_of-Decides connector e.0).0 both.1, ap (λ (x : History). is_some x.end) (of_row e.0 e.1 rows.0) ∙ both.0),
+            own es rows.1,
+          )
 
     pub are_parts_of : (parts : List PartKey) → parts ≡ parts_in connector table.entries → ArePartsOf connector entries parts
     are_parts_of parts is = rw is record {

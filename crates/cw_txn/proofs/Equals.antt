@@ -1,5 +1,5 @@
 -- The derived tests of equality decide it.
-use Rattle.std.proofs.Common.{◌≡◌, ℕ, ◌==◌, Bool, true, false, ◌&&◌, Option, Some, None, nat_eq, refl, sym, ap, ◌∙◌}
+use Rattle.std.proofs.Common.{◌≡◌, ℕ, ◌==◌, ◌&&◌, Option, Some, None, nat_eq, refl, ap, ◌∙◌}
 use Rattle.std.specs.Bool.{Decides}
 use Rattle.std.specs.Option.{option_eq}
 use Rattle.std.proofs.lemmas.Bool.Decides.{Decides-and, Decides-like, Decides-eqb, Decides-at}
@@ -37,9 +37,9 @@ part-Decides a b = Decides-at (part_eq.eq-value.it a b) (same_part a b) (part_sa
 pub span-Decides : (a b : Span) → Decides (span_eq.eq-value.it a b) (a ≡ b)
 span-Decides a b =
     two (part_eq.eq-value.it a.part b.part) ((a.from == b.from) && (a.to == b.to)) (part-Decides a.part b.part)
-        (Decides-and (a.from == b.from) (a.to == b.to) (Decides-eqb a.from b.from) (Decides-eqb a.to b.to))
-        (λ p q. ap (λ (x : PartKey). record { part = x; from = a.from; to = a.to }) p ∙ ap (λ (n : ℕ). record { part = b.part; from = n; to = a.to }) q.0 ∙ ap (λ (n : ℕ). record { part = b.part; from = b.from; to = n }) q.1)
-        (λ e. (ap (λ s. s.part) e, (ap (λ s. s.from) e, ap (λ s. s.to) e)))
+    (Decides-and (a.from == b.from) (a.to == b.to) (Decides-eqb a.from b.from) (Decides-eqb a.to b.to))
+    (λ p q. ap (λ (x : PartKey). record { part = x; from = a.from; to = a.to }) p ∙ ap (λ (n : ℕ). record { part = b.part; from = n; to = a.to }) q.0 ∙ ap (λ (n : ℕ). record { part = b.part; from = b.from; to = n }) q.1)
+    (λ e. (ap (λ s. s.part) e, (ap (λ s. s.from) e, ap (λ s. s.to) e)))
 
 option-Decides : (a b : Option ℕ) → Decides (option_eq nat_eq a b) (a ≡ b)
 option-Decides None None = (λ _. refl, λ _. refl)
@@ -50,5 +50,5 @@ option-Decides (Some a) (Some b) = Decides-like (a == b) (ap Some) (λ e. cc) (D
 pub set-Decides : (a b : SetOffset) → Decides (set_eq.eq-value.it a b) (a ≡ b)
 set-Decides a b =
     two (part_eq.eq-value.it a.part b.part) (option_eq nat_eq a.to b.to) (part-Decides a.part b.part) (option-Decides a.to b.to)
-        (λ p q. ap (λ (x : PartKey). record { part = x; to = a.to }) p ∙ ap (λ (o : Option ℕ). record { part = b.part; to = o }) q)
-        (λ e. (ap (λ s. s.part) e, ap (λ s. s.to) e))
+    (λ p q. ap (λ (x : PartKey). record { part = x; to = a.to }) p ∙ ap (λ (o : Option ℕ). record { part = b.part; to = o }) q)
+    (λ e. (ap (λ s. s.part) e, ap (λ s. s.to) e))

@@ -1,20 +1,18 @@
 -- The tables behind one entry more.
-use Rattle.std.proofs.Common.{◌≡◌, ℕ, ◌+◌, Bool, true, false, ◌||◌, cond, List, [], ◌∷◌, ◌++◌, Some, Option, unwrap_or, refl, sym, ap, ◌∙◌, arith}
+use Rattle.std.proofs.Common.{◌≡◌, ℕ, ◌+◌, Bool, true, false, ◌||◌, cond, List, [], ◌∷◌, ◌++◌, Some, refl, sym, ap, ◌∙◌, arith}
 use Rattle.std.specs.List.{fold}
 use Rattle.std.specs.BTreeMap.{BTreeMap, get, is_at}
 use Rattle.cw_types.specs.declared.ids.Tid.{Tid}
 use Rattle.cw_types.specs.declared.ids.Tag.{Tag}
 use Rattle.cw_types.specs.declared.ids.PartKey.{PartKey}
 use Rattle.cw_types.specs.declared.ids.Span.{Span}
-use Rattle.cw_types.specs.declared.ids.Epoch.{Epoch}
 use Rattle.cw_txn.specs.declared.entry.Entry.{Entry}
-use Rattle.cw_txn.specs.declared.entry.Entry.TheVariants.{Bump, Commit, Set}
-use Rattle.cw_txn.specs.declared.entry.SetOffset.{SetOffset}
+use Rattle.cw_txn.specs.declared.entry.Entry.TheVariants.{Bump, Commit}
 use Rattle.cw_txn.specs.declared.tables.History.{History}
 use Rattle.cw_txn.specs.declared.tables.Tables.{Tables}
-use Rattle.cw_txn.specs.Same.{same_tid, same_tag, same_part}
-use Rattle.cw_txn.specs.Legal.{epoch_of, is_committed}
-use Rattle.cw_txn.specs.History.{history, after_span, after_offset}
+use Rattle.cw_txn.specs.Same.{same_tid, same_tag}
+use Rattle.cw_txn.specs.Legal.{is_committed}
+use Rattle.cw_txn.specs.History.{after_span}
 use Rattle.cw_txn.specs.Tables.{Keeps, epoch_at, committed_at, history_at, tid_order, tag_order}
 use Rattle.cw_txn.proofs.SameLemmas.{tid_at, same_tid-flip, same_tid-Decides, tag_at, same_tag-flip, same_tag-Decides}
 use Rattle.cw_txn.proofs.RowLemmas.{value-moved, value-set}

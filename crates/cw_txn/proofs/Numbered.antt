@@ -1,6 +1,5 @@
 -- A script's transactions are told apart by their places in the list.
 use Rattle.std.proofs.Common.{◌≡◌, ℕ, ◌+◌, ◌≤◌, ◌<◌, Bool, true, false, ◌||◌, List, [], ◌∷◌, ◌++◌, length, refl, sym, ap, ◌∙◌, arith, length-append}
-use Rattle.cw_types.specs.declared.ids.Tid.{Tid}
 use Rattle.cw_types.specs.declared.ids.Tid.TheVariants.{Raw}
 use Rattle.cw_types.specs.declared.ids.Tag.{Tag}
 use Rattle.cw_txn.specs.declared.entry.Entry.{Entry}

@@ -69,9 +69,9 @@ same_part-Decides (Sink a f) (Sink b g) = two (bytes_eq a b) (bytes_eq f g) (byt
 pub same_tag-Decides : (a b : Tag) → Decides (same_tag a b) (a ≡ b)
 same_tag-Decides a b =
     two (same_tid a.tid b.tid && (a.epoch.0 == b.epoch.0)) (a.number == b.number)
-        (Decides-and (same_tid a.tid b.tid) (a.epoch.0 == b.epoch.0) (same_tid-Decides a.tid b.tid) (Decides-eqb a.epoch.0 b.epoch.0))
-        (Decides-eqb a.number b.number)
-        (λ p n. ap (λ (t : Tid). record { tid = t; epoch = a.epoch; number = a.number }) p.0 ∙ ap (λ (m : ℕ). record { tid = b.tid; epoch = record { 0 = m }; number = a.number }) p.1 ∙ ap (λ (m : ℕ). record { tid = b.tid; epoch = b.epoch; number = m }) n) (λ e. ((ap (λ t. t.tid) e, ap (λ t. t.epoch.0) e), ap (λ t. t.number) e))
+    (Decides-and (same_tid a.tid b.tid) (a.epoch.0 == b.epoch.0) (same_tid-Decides a.tid b.tid) (Decides-eqb a.epoch.0 b.epoch.0))
+    (Decides-eqb a.number b.number)
+    (λ p n. ap (λ (t : Tid). record { tid = t; epoch = a.epoch; number = a.number }) p.0 ∙ ap (λ (m : ℕ). record { tid = b.tid; epoch = record { 0 = m }; number = a.number }) p.1 ∙ ap (λ (m : ℕ). record { tid = b.tid; epoch = b.epoch; number = m }) n) (λ e. ((ap (λ t. t.tid) e, ap (λ t. t.epoch.0) e), ap (λ t. t.number) e))
 
 is_eq-then : (o p : Ordering) → is_eq (ordering_then o p) ≡ (is_eq o && is_eq p)
 is_eq-then Less p = refl
@@ -108,8 +108,8 @@ turned false false false = refl
 pub tag_at : (a b : Tag) → is_at (tag_order a) b ≡ same_tag a b
 tag_at a b =
     both (nat_cmp a.number b.number) (ordering_then (nat_cmp a.epoch.0 b.epoch.0) (tid_order a.tid b.tid)) (a.number == b.number) ((a.epoch.0 == b.epoch.0) && same_tid a.tid b.tid)
-        (is_eq-nat_cmp a.number b.number)
-        (both (nat_cmp a.epoch.0 b.epoch.0) (tid_order a.tid b.tid) (a.epoch.0 == b.epoch.0) (same_tid a.tid b.tid) (is_eq-nat_cmp a.epoch.0 b.epoch.0) (tid_at a.tid b.tid))
+    (is_eq-nat_cmp a.number b.number)
+    (both (nat_cmp a.epoch.0 b.epoch.0) (tid_order a.tid b.tid) (a.epoch.0 == b.epoch.0) (same_tid a.tid b.tid) (is_eq-nat_cmp a.epoch.0 b.epoch.0) (tid_at a.tid b.tid))
     ∙ turned (same_tid a.tid b.tid) (a.epoch.0 == b.epoch.0) (a.number == b.number)
 
 pub part_at : (a b : PartKey) → is_at (part_order a) b ≡ same_part a b

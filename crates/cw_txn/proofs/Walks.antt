@@ -1,6 +1,5 @@
 -- What the definitions over a list say of a list with one entry more.
 use Rattle.std.proofs.Common.{◌≡◌, ℕ, suc, ◌<◌, take, drop, slice_index_or, drop-cons, add-one, ◌+◌, ◌≤◌, Bool, true, false, ◌||◌, cond, List, [], ◌∷◌, ◌++◌, length, refl, sym, ap, ◌∙◌, subst, arith, append_assoc}
-use Rattle.std.specs.List.{fold, count_by, list_any}
 use Rattle.std.proofs.lemmas.List.{append-nil, take-append-drop}
 use Rattle.std.proofs.lemmas.List.Sums.{fold-append, sum_by-append}
 use Rattle.std.proofs.lemmas.List.Folds.{list_any-append}
@@ -8,7 +7,6 @@ use Rattle.cw_types.specs.declared.ids.Tid.{Tid}
 use Rattle.cw_types.specs.declared.ids.Tag.{Tag}
 use Rattle.cw_types.specs.declared.ids.PartKey.{PartKey}
 use Rattle.cw_txn.specs.declared.entry.Entry.{Entry}
-use Rattle.cw_txn.specs.declared.entry.Entry.TheVariants.{Bump, Commit, Set}
 use Rattle.cw_txn.specs.Legal.{is_bump_of, epoch_of, is_commit_of, is_committed, EachFrom, Each}
 use Rattle.cw_txn.specs.History.{after_entry, history, unset}
 

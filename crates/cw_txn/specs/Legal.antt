@@ -1,6 +1,6 @@
 -- Which lists of entries a transaction coordinator may hold (KIP-618, fencing by epochs): nobody writes under an epoch that was bumped away,
 -- no transaction is committed twice, and each part's spans chain.
-use Rattle.std.specs.Prelude.{◌≡◌, ℕ, Bool, true, false, ◌+◌, List, [], ◌∷◌, ◌++◌, length, nat_lt, if◌then◌else◌, map}
+use Rattle.std.specs.Prelude.{◌≡◌, ℕ, Bool, false, List, [], ◌∷◌, ◌++◌, length, nat_lt, if◌then◌else◌}
 use Rattle.std.specs.Bool.{⊤}
 use Rattle.std.specs.List.{count_by, list_any}
 use Rattle.cw_types.specs.declared.ids.Tid.{Tid}

@@ -1,7 +1,6 @@
 -- When two producers, parts or transactions are the same: by kind, by the bytes of their names, and by their numbers.
 use Rattle.std.specs.Prelude.{ℕ, Bool, true, false, ◌&&◌, ◌==◌, List, Option, Some, None}
 use Rattle.std.specs.Str.{bytes_eq}
-use Rattle.cw_types.specs.declared.ids.TaskId.{TaskId}
 use Rattle.cw_types.specs.declared.ids.Tid.{Tid}
 use Rattle.cw_types.specs.declared.ids.Tid.TheVariants.{Lead, Task, Raw as RawId}
 use Rattle.cw_types.specs.declared.ids.Tag.{Tag}

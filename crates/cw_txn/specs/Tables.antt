@@ -1,6 +1,5 @@
 -- What the coordinator's tables keep of its list, so that no look-up walks it. Internal: no public contract cites this.
 use Rattle.std.specs.Prelude.{◌≡◌, ℕ, ◌+◌, ◌≤◌, Bool, false, List, length, Contains, [], ◌∷◌, ◌&&◌, is_some, IsSome, unwrap_or, All, if◌then◌else◌, slice_index_or, take, ◌<◌}
-use Rattle.std.specs.Bool.{⊤}
 use Rattle.std.specs.Str.{bytes_eq}
 use Rattle.std.specs.BTreeMap.{BTreeMap, get}
 use Rattle.std.specs.declared.cmp.Ordering.{Ordering}
@@ -8,13 +7,11 @@ use Rattle.cw_types.specs.declared.ids.Tid.{Tid}
 use Rattle.cw_types.specs.declared.ids.Tag.{Tag}
 use Rattle.cw_types.specs.declared.ids.PartKey.{PartKey}
 use Rattle.cw_types.specs.declared.ids.PartKey.TheVariants.{Raw, File, Seq, Sink}
-use Rattle.cw_types.specs.declared.ids.Span.{Span}
 use Rattle.cw_types.specs.contracts.ids.TidOrd.TheImpl as tid_ord
 use Rattle.cw_types.specs.contracts.ids.TagOrd.TheImpl as tag_ord
 use Rattle.cw_types.specs.contracts.ids.PartKeyOrd.TheImpl as part_ord
 use Rattle.cw_txn.specs.declared.entry.Entry.{Entry}
 use Rattle.cw_txn.specs.declared.entry.Entry.TheVariants.{Bump, Commit, Set}
-use Rattle.cw_txn.specs.declared.entry.SetOffset.{SetOffset}
 use Rattle.cw_txn.specs.declared.entry.EntryRef.{EntryRef}
 use Rattle.cw_txn.specs.declared.entry.EntryRef.TheVariants.{Bump as BumpRef, Commit as CommitRef, Set as SetRef}
 use Rattle.cw_txn.specs.declared.tables.History.{History}

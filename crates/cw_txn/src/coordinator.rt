@@ -133,7 +133,10 @@ impl Coordinator {
     pub fn are_next(&self, spans: &[Span]) -> bool
         ensures { IsTrue result ↔ AreNext self.now.entries spans.now }
     {
-        !spans.is_empty() && spans.len() <= 16 && have_distinct_parts(spans) && self.all_go_on(spans)
+        !spans.is_empty()
+            && spans.len() <= 16
+            && have_distinct_parts(spans)
+            && self.all_go_on(spans)
     }
 
     // Whether each span begins where its part ends.
@@ -160,7 +163,12 @@ impl Coordinator {
         ensures err { OnErr result (self.new ≡ self.old) }
     {
         let room = self.reserved.len() + 1;
-        make_room(&mut self.tables, &mut self.entries, room, &EntryRef::of(entry))?;
+        make_room(
+            &mut self.tables,
+            &mut self.entries,
+            room,
+            &EntryRef::of(entry),
+        )?;
         self.reserved.push(entry.copy(self.alloc)?)?;
         Ok(())
     }
@@ -203,7 +211,11 @@ impl Coordinator {
         if tag.epoch.0 != current {
             return Err(TxnFault::Fenced { current });
         }
-        self.append(&EntryRef::Commit { tag, generation, spans })?;
+        self.append(&EntryRef::Commit {
+            tag,
+            generation,
+            spans,
+        })?;
         Ok(())
     }
 
@@ -249,7 +261,11 @@ impl Coordinator {
         }
         let room = self.reserved.len() + 1;
         make_room(&mut self.tables, &mut self.entries, room, entry)?;
-        settle(&mut self.tables, &mut self.entries, entry.to_entry(self.alloc)?);
+        settle(
+            &mut self.tables,
+            &mut self.entries,
+            entry.to_entry(self.alloc)?,
+        );
         Ok(())
     }
 }
@@ -324,7 +340,12 @@ fn place_of(entries: &[Entry], entry: &EntryRef<'_>) -> Option<usize>
 }
 
 // Rows for an entry, which change no meaning, and places for so many entries more.
-fn make_room(tables: &mut Tables, entries: &mut Vec<Entry>, more: usize, entry: &EntryRef<'_>) -> Result<(), AllocError>
+fn make_room(
+    tables: &mut Tables,
+    entries: &mut Vec<Entry>,
+    more: usize,
+    entry: &EntryRef<'_>,
+) -> Result<(), AllocError>
     ensures entries { entries.new.items ≡ entries.old.items }
     ensures room { vec_capacity entries.old ≤ vec_capacity entries.new }
     ensures more { OnOk result (vec_len entries.new + more ≤ vec_capacity entries.new) }

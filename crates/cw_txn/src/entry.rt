@@ -93,7 +93,11 @@ impl<'a> EntryRef<'a> {
     {
         match entry {
             Entry::Bump(tid) => EntryRef::Bump(tid),
-            Entry::Commit { tag, generation, spans } => EntryRef::Commit {
+            Entry::Commit {
+                tag,
+                generation,
+                spans,
+            } => EntryRef::Commit {
                 tag,
                 generation: *generation,
                 spans: spans.as_slice(),
@@ -112,7 +116,11 @@ impl<'a> EntryRef<'a> {
     {
         match self {
             EntryRef::Bump(tid) => Ok(Entry::Bump(tid.copy()?)),
-            EntryRef::Commit { tag, generation, spans } => Ok(Entry::Commit {
+            EntryRef::Commit {
+                tag,
+                generation,
+                spans,
+            } => Ok(Entry::Commit {
                 tag: tag.copy()?,
                 generation: *generation,
                 spans: copy_spans(alloc, spans)?,
@@ -131,12 +139,28 @@ impl<'a> EntryRef<'a> {
     {
         match (self, entry) {
             (EntryRef::Bump(tid), Entry::Bump(other)) => same_tids(tid, other),
-            (EntryRef::Commit { tag, generation, spans }, Entry::Commit { tag: other, generation: of, spans: list }) => {
+            (
+                EntryRef::Commit {
+                    tag,
+                    generation,
+                    spans,
+                },
+                Entry::Commit {
+                    tag: other,
+                    generation: of,
+                    spans: list,
+                },
+            ) => {
                 same_tags(tag, other) && *generation == *of && same_spans(spans, list.as_slice())
             }
-            (EntryRef::Set { tid, epoch, list }, Entry::Set { tid: other, epoch: of, list: sets }) => {
-                same_tids(tid, other) && epoch.0 == of.0 && same_offsets(list, sets.as_slice())
-            }
+            (
+                EntryRef::Set { tid, epoch, list },
+                Entry::Set {
+                    tid: other,
+                    epoch: of,
+                    list: sets,
+                },
+            ) => { same_tids(tid, other) && epoch.0 == of.0 && same_offsets(list, sets.as_slice()) }
             _ => false,
         }
     }

@@ -20,7 +20,11 @@ pub fn has_row<K: Ord, V>(table: &BTreeMap<K, V>, key: &K) -> bool
 }
 
 // A row that reads as a missing one.
-pub fn make_row<K: Ord + Drop, V: Copy>(table: &mut BTreeMap<K, V>, key: K, missing: V) -> Result<(), AllocError>
+pub fn make_row<K: Ord + Drop, V: Copy>(
+    table: &mut BTreeMap<K, V>,
+    key: K,
+    missing: V,
+) -> Result<(), AllocError>
     requires { get K.cmp table.old key ≡ None }
     ensures same { (q : K) → unwrap_or (get K.cmp table.new q) missing ≡ unwrap_or (get K.cmp table.old q) missing }
     ensures kept { (q : K) → IsSome (get K.cmp table.old q) → IsSome (get K.cmp table.new q) }

@@ -131,9 +131,18 @@ fn is_of(part: &PartKey, connector: &Name) -> bool
 {
     match part {
         PartKey::Raw(_) => false,
-        PartKey::File { connector: owner, .. } => same_names(owner, connector),
-        PartKey::Seq { connector: owner, .. } => same_names(owner, connector),
-        PartKey::Sink { connector: owner, .. } => same_names(owner, connector),
+        PartKey::File {
+            connector: owner,
+            ..
+        } => same_names(owner, connector),
+        PartKey::Seq {
+            connector: owner,
+            ..
+        } => same_names(owner, connector),
+        PartKey::Sink {
+            connector: owner,
+            ..
+        } => same_names(owner, connector),
     }
 }
 
@@ -187,7 +196,10 @@ fn make_span_parts(parts: &mut BTreeMap<PartKey, History>, spans: &[Span]) -> Re
     Ok(())
 }
 
-fn make_set_parts(parts: &mut BTreeMap<PartKey, History>, list: &[SetOffset]) -> Result<(), AllocError>
+fn make_set_parts(
+    parts: &mut BTreeMap<PartKey, History>,
+    list: &[SetOffset],
+) -> Result<(), AllocError>
     ensures same { (q : PartKey) → history_at parts.new q ≡ history_at parts.old q }
     ensures kept { (q : PartKey) → HasPart parts.old q → HasPart parts.new q }
     ensures there { OnOk result (All (λ set. HasPart parts.new set.part) list.now) }
@@ -204,7 +216,14 @@ fn move_end(parts: &mut BTreeMap<PartKey, History>, span: &Span)
     ensures kept { (q : PartKey) → HasPart parts.old q → HasPart parts.new q }
 {
     let was = value_at(parts, &span.part, History::UNSET);
-    set_row(parts, &span.part, History { base: was.base, end: Some(span.to) });
+    set_row(
+        parts,
+        &span.part,
+        History {
+            base: was.base,
+            end: Some(span.to),
+        },
+    );
 }
 
 fn move_ends(parts: &mut BTreeMap<PartKey, History>, spans: &[Span])
@@ -222,7 +241,14 @@ fn set_history(parts: &mut BTreeMap<PartKey, History>, set: &SetOffset)
     ensures moved { (part : PartKey) → history_at parts.new part ≡ after_offset part (history_at parts.old part) set.now }
     ensures kept { (q : PartKey) → HasPart parts.old q → HasPart parts.new q }
 {
-    set_row(parts, &set.part, History { base: set.to.unwrap_or(0), end: set.to });
+    set_row(
+        parts,
+        &set.part,
+        History {
+            base: set.to.unwrap_or(0),
+            end: set.to,
+        },
+    );
 }
 
 fn set_histories(parts: &mut BTreeMap<PartKey, History>, list: &[SetOffset])

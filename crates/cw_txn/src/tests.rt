@@ -21,7 +21,13 @@ fn span(part: u32, from: u64, to: u64) -> Span {
 }
 
 // A commit whose conditions the test itself vouches for.
-fn commit(rt: &impl Abort, txn: &mut Coordinator, tag: &Tag, generation: u64, spans: &[Span]) -> Result<(), TxnFault> {
+fn commit(
+    rt: &impl Abort,
+    txn: &mut Coordinator,
+    tag: &Tag,
+    generation: u64,
+    spans: &[Span],
+) -> Result<(), TxnFault> {
     assert!(rt; !txn.is_committed(tag));
     assert!(rt; txn.are_next(spans));
     txn.commit(tag, generation, spans)
@@ -41,7 +47,15 @@ fn fenced_producer_is_refused(rt: HostRuntime) -> Result<(), Fail> {
         (2, 3, 4, 5, 9, Ok(())),
     ];
     for (epoch, number, generation, from, to, answer) in table {
-        assert!(rt; commit(&rt, &mut txn, &tag(2, epoch, number), generation, &[span(0, from, to)]) == answer);
+        assert!(rt;
+            commit(
+                &rt,
+                &mut txn,
+                &tag(2, epoch, number),
+                generation,
+                &[span(0, from, to)]
+            ) == answer
+        );
     }
     assert_eq!(rt; txn.length(), 4);
     assert_eq!(rt; txn.epoch_of(&id), 2);
@@ -96,7 +110,10 @@ fn set_offset_is_base_and_end_and_none_begins_anew(rt: HostRuntime) -> Result<()
         }
         assert_eq!(rt; txn.base_of(&part), base);
         assert!(rt; txn.end_of(&part) == end);
-        assert_eq!(rt; txn.parts_of(&connector)?.len(), if end.is_some() { 1 } else { 0 });
+        assert_eq!(rt;
+            txn.parts_of(&connector)?.len(),
+            if end.is_some() { 1 } else { 0 }
+        );
     }
     assert_eq!(rt; txn.length(), 8);
     Ok(())

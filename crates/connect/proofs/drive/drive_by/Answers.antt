@@ -1,5 +1,4 @@
-use Rattle.std.proofs.Common.{◌≡◌, ◌≤◌, ◌<◌, ◌+◌, ℕ, List, [], Ok, take, vec_len, refl, sym, ap, ◌∙◌, arith, rules}
-use Rattle.std.proofs.lemmas.Grind.{common_steps}
+use Rattle.std.proofs.Common.{◌≡◌, Ok, take, ap, arith}
 use Rattle.connect.specs.declared.status.Status.TheVariants.{ReadFault, Usage}
 use Rattle.connect.proofs.SoFar.{started, next, ended_in, at_end, read_failed, never_so}
 use Rattle.connect.proofs.drive.drive_by.Goals as goal

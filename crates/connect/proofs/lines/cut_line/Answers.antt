@@ -1,4 +1,4 @@
-use Rattle.std.proofs.Common.{◌≡◌, ℕ, suc, ◌+◌, ◌-◌, ◌<◌, ◌≤◌, List, ◌∷◌, ◌++◌, length, get_or, nat_eq, true, take, drop, sym, ap, ◌∙◌, arith, length-drop, add-one}
+use Rattle.std.proofs.Common.{◌≡◌, ℕ, suc, ◌+◌, ◌-◌, ◌<◌, List, ◌∷◌, ◌++◌, length, get_or, nat_eq, true, take, drop, sym, ap, ◌∙◌, arith, length-drop, add-one}
 use Rattle.std.proofs.lemmas.List.{take_all}
 use Rattle.connect.proofs.LineLemmas.{is_line-none, is_line-take, cut_at}
 use Rattle.connect.proofs.lines.cut_line.Goals as goal

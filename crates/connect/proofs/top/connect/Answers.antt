@@ -1,4 +1,3 @@
-use Rattle.std.proofs.Common.{◌≡◌}
 use Rattle.connect.proofs.Safety.{run_is_safe}
 use Rattle.connect.proofs.SoFar.{done_or_memory}
 use Rattle.connect.proofs.top.connect.Goals as goal

@@ -1,6 +1,5 @@
-use Rattle.std.proofs.Common.{◌≡◌, ℕ, ◌≤◌, ◌++◌, List, Option, OnErr, Result, ◌∙◌, Ok, Err, length, take, drop, sym, arith}
+use Rattle.std.proofs.Common.{OnErr, Result, ◌∙◌, Ok, Err, take, drop, sym, arith}
 use Rattle.std.proofs.lemmas.List.{take-append-drop}
-use Rattle.cw_io.specs.Written.{IsWrittenInPart}
 use Rattle.cw_io.proofs.Pieces.{added_more}
 use Rattle.cw_io.proofs.traits.write_all.Goals as goal
 

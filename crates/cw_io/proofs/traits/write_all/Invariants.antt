@@ -1,4 +1,4 @@
-use Rattle.std.proofs.Common.{length, ◌-◌, ◌≡◌, ℕ, ◌≤◌, ◌++◌, List, take}
+use Rattle.std.proofs.Common.{length, ◌-◌, ◌≡◌, ◌≤◌, ◌++◌, take}
 use Rattle.std.specs.Option.{option_map}
 use Rattle.cw_io.proofs.traits.write_all.Given as goal
 

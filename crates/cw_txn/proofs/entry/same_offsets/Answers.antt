@@ -1,4 +1,4 @@
-use Rattle.std.proofs.Common.{◌≡◌, sym}
+use Rattle.std.proofs.Common.{sym}
 use Rattle.std.proofs.lemmas.Slice.Eq.{slice_eq-Decides}
 use Rattle.cw_txn.proofs.Equals.{set-Decides}
 use Rattle.cw_txn.proofs.entry.same_offsets.Goals as goal

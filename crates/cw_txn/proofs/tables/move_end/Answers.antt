@@ -1,4 +1,4 @@
-use Rattle.std.proofs.Common.{◌≡◌, Some, ap}
+use Rattle.std.proofs.Common.{Some, ap}
 use Rattle.cw_txn.specs.declared.tables.History.{History}
 use Rattle.cw_txn.specs.Same.{same_part}
 use Rattle.cw_txn.specs.History.{unset}

@@ -1,4 +1,4 @@
-use Rattle.std.proofs.Common.{◌≡◌, ℕ, Some, ap, unwrap_or}
+use Rattle.std.proofs.Common.{ℕ, ap, unwrap_or}
 use Rattle.cw_txn.specs.declared.tables.History.{History}
 use Rattle.cw_txn.specs.Same.{same_part}
 use Rattle.cw_txn.specs.History.{unset}

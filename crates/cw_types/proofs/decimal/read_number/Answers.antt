@@ -1,5 +1,5 @@
-use Rattle.std.proofs.Common.{◌≡◌, ℕ, ◌+◌, ◌^◌, ◌<◌, List, ◌∷◌, None, drop, length, slice_index_or, add-one, drop-cons, refl, sym, ap, ◌∙◌, arith, rules}
-use Rattle.cw_types.specs.Decimal.{read_on, number_of}
+use Rattle.std.proofs.Common.{◌≡◌, ℕ, ◌+◌, ◌^◌, ◌<◌, List, ◌∷◌, drop, length, slice_index_or, add-one, drop-cons, refl, sym, ap, ◌∙◌, arith}
+use Rattle.cw_types.specs.Decimal.{read_on}
 use Rattle.cw_types.proofs.Decimals.{number_past}
 use Rattle.cw_types.proofs.decimal.read_number.Goals as goal
 

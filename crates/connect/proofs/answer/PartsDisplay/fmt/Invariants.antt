@@ -1,4 +1,4 @@
-use Rattle.std.proofs.Common.{◌≡◌, take}
+use Rattle.std.proofs.Common.{take}
 use Rattle.std.specs.Fmt.{HasWritten, IsPlainFormatter}
 use Rattle.connect.specs.Answers.{committed_text}
 use Rattle.connect.proofs.answer.PartsDisplay.fmt.Given as goal

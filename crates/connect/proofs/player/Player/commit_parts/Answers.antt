@@ -1,10 +1,9 @@
-use Rattle.std.proofs.Common.{◌≡◌, ℕ, List, ◌≤◌, length, map, All, None, find, refl, sym, ap, subst, ◌∙◌}
+use Rattle.std.proofs.Common.{◌≡◌, List, map, None, find, refl, sym, ap, subst, ◌∙◌}
 use Rattle.cw_types.specs.declared.ids.Tid.TheVariants.{Raw}
 use Rattle.cw_types.specs.declared.ids.Span.{Span}
 use Rattle.cw_txn.specs.declared.entry.Entry.{Entry}
 use Rattle.cw_txn.specs.declared.entry.Entry.TheVariants.{Commit}
 use Rattle.cw_txn.specs.Transactions.{AreNext}
-use Rattle.connect.specs.declared.answer.Committing.{Committing}
 use Rattle.connect.specs.Cuts.{committing, is_bad_cut, span_of}
 use Rattle.cw_txn.proofs.Numbered.{is_committed-numbered}
 use Rattle.connect.proofs.Numbering.{numbered_either, are_next}

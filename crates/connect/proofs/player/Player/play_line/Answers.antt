@@ -1,4 +1,4 @@
-use Rattle.std.proofs.Common.{◌≡◌, ◌∙◌, ◌++◌, [], Ok, Err, Some, None, refl, sym, ap, subst, arith, OnOk, IfErr}
+use Rattle.std.proofs.Common.{◌∙◌, ◌++◌, Ok, Err, Some, None, refl, sym, ap, subst, arith, OnOk, IfErr}
 use Rattle.std.proofs.lemmas.List.{append-nil}
 use Rattle.cw_script.specs.declared.fault.ScriptFault.{ScriptFault}
 use Rattle.cw_script.specs.declared.fault.ScriptFault.TheVariants.{BadLine}

@@ -1,9 +1,9 @@
-use Rattle.std.proofs.Common.{◌≡◌, ◌+◌, ℕ, List, Bool, true, ◌∷◌, ◌++◌, [], refl, sym, ap, ◌∙◌, subst, append_assoc}
+use Rattle.std.proofs.Common.{◌+◌, ℕ, List, ◌∷◌, ◌++◌, refl, ap, ◌∙◌, subst}
 use Rattle.std.proofs.lemmas.Result.{err_from_is_err_and}
 use Rattle.connect.specs.Lines.{is_line, lines_of}
 use Rattle.connect.specs.Run.{Played, with_front, play, play_line}
-use Rattle.connect.specs.Players.{HasPlayed, HasStopped, PlayerState}
-use Rattle.connect.specs.Sessions.{Stops, resumed}
+use Rattle.connect.specs.Players.{HasPlayed, HasStopped}
+use Rattle.connect.specs.Sessions.{Stops}
 use Rattle.connect.proofs.PlayLemmas.{goes_behind, stops_behind}
 use Rattle.connect.proofs.session.Session.end_line.Goals as goal
 

@@ -1,4 +1,4 @@
-use Rattle.std.proofs.Common.{◌≡◌, ◌+◌, ◌<◌, ◌≤◌, List, ℕ, ◌++◌, length, vec_len, Bool, true, false, if◌then◌else◌, sym, ap, ◌∙◌, subst, arith, rules}
+use Rattle.std.proofs.Common.{◌≡◌, ◌+◌, List, ℕ, ◌++◌, Bool, true, false, if◌then◌else◌, arith, rules}
 use Rattle.connect.specs.Lines.{is_line}
 use Rattle.connect.proofs.LineLemmas.{is_line-append}
 use Rattle.connect.proofs.PlayLemmas.{held_many, held_long}

@@ -1,4 +1,4 @@
-use Rattle.std.proofs.Common.{◌≡◌, ◌+◌, ℕ, List, Bool, ◌∷◌, ◌++◌, [], sym, ap, ◌∙◌, subst}
+use Rattle.std.proofs.Common.{◌+◌, ℕ, List, ◌∷◌, ◌++◌, sym, ap, ◌∙◌, subst}
 use Rattle.std.proofs.lemmas.Result.{err_from_is_err_and}
 use Rattle.connect.specs.Lines.{lines_of}
 use Rattle.connect.specs.Run.{with_front, play}

@@ -1,4 +1,4 @@
-use Rattle.std.proofs.Common.{◌≡◌, ◌+◌, ◌≤◌, Some, length, sym, ap, ◌∙◌, arith}
+use Rattle.std.proofs.Common.{Some, sym, ap, ◌∙◌, arith}
 use Rattle.cw_io.proofs.Pieces.{left_behind}
 use Rattle.cw_io.proofs.memory.MemSourceSource.read.Goals as goal
 

@@ -1,4 +1,4 @@
-use Rattle.std.proofs.Common.{◌≡◌, All, subst, refl, arith}
+use Rattle.std.proofs.Common.{All, subst, refl, arith}
 use Rattle.std.proofs.lemmas.List.{take_all}
 use Rattle.std.proofs.lemmas.List.Elements.{All-more}
 use Rattle.cw_types.specs.declared.ids.Span.{Span}
@@ -10,6 +10,7 @@ loop-span-preserved c = All-more (λ (span : Span). GoesOn (history span.part c.
     (subst (λ (span : Span). GoesOn (history span.part c.args.self.now.entries) span) c.span-item.is (c.goes_on.ensures.0 c.if-not-goes_on.false))
 
 pub returns : goal.returns
-returns c =
-    (λ _. subst (All (λ (span : Span). GoesOn (history span.part c.args.self.now.entries) span)) (take_all c.loop-span.span-index c.args.spans.now (omega arith)) c.loop-span.invariant,
-     λ each. refl)
+returns c = (
+  λ _. subst (All (λ (span : Span). GoesOn (history span.part c.args.self.now.entries) span)) (take_all c.loop-span.span-index c.args.spans.now (omega arith)) c.loop-span.invariant,
+  λ each. refl,
+)

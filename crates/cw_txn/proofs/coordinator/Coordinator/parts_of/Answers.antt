@@ -1,4 +1,4 @@
-use Rattle.std.proofs.Common.{◌≡◌, ◌∙◌, ap}
+use Rattle.std.proofs.Common.{◌∙◌, ap}
 use Rattle.cw_txn.specs.History.{history}
 use Rattle.cw_txn.proofs.Ended.{are_parts_of}
 use Rattle.cw_txn.proofs.coordinator.Coordinator.parts_of.Goals as goal

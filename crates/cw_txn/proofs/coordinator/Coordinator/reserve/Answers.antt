@@ -1,6 +1,6 @@
-use Rattle.std.proofs.Common.{rules, ◌≡◌, ◌∙◌, ◌++◌, ◌∷◌, [], List, sym, ap, subst, arith, vec_capacity, length-append}
+use Rattle.std.proofs.Common.{rules, ◌≡◌, ◌∙◌, ◌++◌, ◌∷◌, [], sym, subst, arith, vec_capacity}
 use Rattle.cw_txn.specs.declared.entry.Entry.{Entry}
-use Rattle.cw_txn.specs.Tables.{HasRows, IsCoordinator}
+use Rattle.cw_txn.specs.Tables.{HasRows}
 use Rattle.cw_txn.proofs.Settled.{roomier, reserved_one}
 use Rattle.cw_txn.proofs.coordinator.Coordinator.reserve.Goals as goal
 
@@ -26,4 +26,4 @@ invariant_of-self-2 c =
     let pushed : c.push.new.self.items ≡ c.self.inside.reserved.items ++ c.in_ok-copy.field-0 ∷ [] = search rules in
     let has = subst (λ (e : Entry). HasRows c.make_room.new.tables e) (c.of.ensures ∙ sym c.in_ok-copy.ensures) c.in_ok-make_room.ensures.there in
     reserved_one c.make_room.new.tables c.make_room.new.entries.items c.self.inside.reserved.items (vec_capacity c.make_room.new.entries) roomy
-        c.in_ok-copy.field-0 c.push.new.self.items pushed has (omega (arith, c.in_ok-make_room.ensures.more, c.len-room.ensures))
+    c.in_ok-copy.field-0 c.push.new.self.items pushed has (omega (arith, c.in_ok-make_room.ensures.more, c.len-room.ensures))

@@ -1,9 +1,8 @@
-use Rattle.std.proofs.Common.{◌≡◌, ◌∙◌, List, ◌++◌, ◌∷◌, [], All, sym, subst, ap}
+use Rattle.std.proofs.Common.{◌∙◌, List, ◌++◌, ◌∷◌, [], All, sym, subst, ap}
 use Rattle.std.specs.List.{fold}
 use Rattle.cw_types.specs.declared.ids.Span.{Span}
 use Rattle.cw_txn.specs.declared.entry.Entry.{Entry}
 use Rattle.cw_txn.specs.declared.entry.SetOffset.{SetOffset}
-use Rattle.cw_txn.specs.declared.tables.History.{History}
 use Rattle.cw_txn.specs.History.{after_span}
 use Rattle.cw_txn.specs.Tables.{HasPart, HasRows, Keeps, history_at}
 use Rattle.cw_txn.proofs.Kept.{keeps_bump, keeps_commit}
@@ -22,10 +21,10 @@ set_histories-requires c =
 pub returns-in-Bump-clause-kept : goal.returns-in-Bump-clause-kept
 returns-in-Bump-clause-kept c entries kept =
     subst (λ (e : Entry). Keeps (record { epochs = c.set_row.new.table; committed = c.args.self.now.committed; parts = c.args.self.now.parts }) (entries ++ e ∷ [])) (sym c.in-Bump.is)
-        (keeps_bump c.args.self.now entries kept c.set_row.new.table c.in-Bump.tid c.epoch-epoch.result c.epoch-epoch.ensures c.set_row.ensures)
+    (keeps_bump c.args.self.now entries kept c.set_row.new.table c.in-Bump.tid c.epoch-epoch.result c.epoch-epoch.ensures c.set_row.ensures)
 
 pub returns-in-Commit-clause-kept : goal.returns-in-Commit-clause-kept
 returns-in-Commit-clause-kept c entries kept =
     subst (λ (e : Entry). Keeps (record { epochs = c.args.self.now.epochs; committed = c.set_row-in-Commit.new.table; parts = c.move_ends.new.parts }) (entries ++ e ∷ [])) (sym c.in-Commit.is)
-        (keeps_commit c.args.self.now entries kept c.set_row-in-Commit.new.table c.move_ends.new.parts c.in-Commit.tag c.in-Commit.generation c.in-Commit.spans c.set_row-in-Commit.ensures
-            (λ part. c.move_ends.ensures.moved part ∙ ap (λ (l : List Span). fold (after_span part) (history_at c.args.self.now.parts part) l) c.as_slice.ensures))
+    (keeps_commit c.args.self.now entries kept c.set_row-in-Commit.new.table c.move_ends.new.parts c.in-Commit.tag c.in-Commit.generation c.in-Commit.spans c.set_row-in-Commit.ensures
+    (λ part. c.move_ends.ensures.moved part ∙ ap (λ (l : List Span). fold (after_span part) (history_at c.args.self.now.parts part) l) c.as_slice.ensures))
