@@ -1,0 +1,11 @@
+pub mod Names
+pub mod ConfigKeys
+pub mod Counts
+pub mod Properties
+pub mod Targets
+pub mod Configs
+pub mod Statuses
+pub mod Traces
+pub mod Parts
+pub mod Offsets
+pub mod Answers
