@@ -1,0 +1,7 @@
+pub mod Gates
+pub mod Made
+pub mod Windows
+pub mod Frames
+pub mod Opened
+pub mod Appended
+pub mod OneReading

@@ -1,0 +1,19 @@
+use Rattle.cw_disk.specs.Disk.{Cut}
+use Rattle.cw_disk.proofs.Moments.{adds_call}
+use Rattle.cw_log.proofs.Gates.{stepped, steps_adds}
+use Rattle.cw_log.proofs.calls.shorten.Goals as goal
+
+pub returns-in_err-cut-clause-left : goal.returns-in_err-cut-clause-left
+returns-in_err-cut-clause-left g c file is = stepped file (g.D.Disk.may_leave c.args.disk.now) (g.D.Disk.may_leave c.cut.new.self) (Cut c.args.to) (c.requires.settled file is) c.cut.ensures.crash
+
+pub returns-in_err-cut-clause-adds : goal.returns-in_err-cut-clause-adds
+returns-in_err-cut-clause-adds g c file is = adds_call g.D.Disk.moment g.D.Disk.left_since g.D.Disk.may_leave c.args.disk.now c.cut.new.self (Cut c.args.to file) c.cut.ensures.time
+    (stepped file (g.D.Disk.may_leave c.args.disk.now) (g.D.Disk.may_leave c.cut.new.self) (Cut c.args.to) (c.requires.settled file is) c.cut.ensures.crash)
+
+pub returns-clause-left : goal.returns-clause-left
+returns-clause-left g c file is image left = stepped file (g.D.Disk.may_leave c.args.disk.now) (g.D.Disk.may_leave c.cut.new.self) (Cut c.args.to) (c.requires.settled file is) c.cut.ensures.crash image (c.sync.ensures.crash image left)
+
+pub returns-clause-adds : goal.returns-clause-adds
+returns-clause-adds g c file is = steps_adds g.D.Disk.holds g.D.Disk.may_leave g.D.Disk.moment g.D.Disk.left_since g.D.Disk.count g.D.Disk.reserved g.met.D.Disk.counts_now c.args.disk.now c.cut.new.self (Cut c.args.to file) c.cut.ensures.time
+    (stepped file (g.D.Disk.may_leave c.args.disk.now) (g.D.Disk.may_leave c.cut.new.self) (Cut c.args.to) (c.requires.settled file is) c.cut.ensures.crash)
+    c.sync.new.self c.sync.ensures.crash c.sync.ensures.time

@@ -1,0 +1,41 @@
+use Rattle.std.proofs.Common.{◌+◌, ◌-◌, List, drop, refl, sym, ◌∙◌, subst, arith}
+use Rattle.cw_log.specs.declared.place.Frame.{Frame}
+use Rattle.cw_log.specs.declared.place.Place.{Place}
+use Rattle.cw_log.specs.Log.{IsFrame, EndsWithin, Begins}
+use Rattle.cw_log.proofs.Gates.{reads_none, reads_then}
+use Rattle.cw_log.proofs.Frames.{begins_start, begins_next, breaks}
+use Rattle.cw_log.proofs.scan.scan.Goals as goal
+
+pub frames-init : goal.frames-init
+frames-init g c = record {
+  reads = reads_none g.D.Disk.holds g.D.Disk.may_leave g.D.Disk.moment g.D.Disk.left_since g.D.Disk.count g.D.Disk.reserved g.met.D.Disk.counts_now c.args.disk.now;
+  window = λ file is. c.in_ok-window.ensures.window file;
+  within = c.in_ok-window.ensures.within;
+  begins = λ file is. subst (λ (l : List Place). Begins 16 l file) (sym c.new-places.ensures.items) (begins_start file (omega (arith, c.requires.size file is, c.requires.long)));
+  low = omega arith;
+  high = c.requires.long;
+}
+
+pub frame_at-requires-clause-window : goal.frame_at-requires-clause-window
+frame_at-requires-clause-window g c file is = c.frames.invariant.window file (sym c.frames.invariant.reads.same ∙ is)
+
+pub returns-in-Closed-clause-found : goal.returns-in-Closed-clause-found
+returns-in-Closed-clause-found g c file is =
+    (c.frames.invariant.begins file is, subst (λ (frame : Frame). IsFrame frame (drop c.frames.at file)) c.in-Closed.is (c.in_ok-frame_at.ensures.frame file (c.frames.invariant.reads.same ∙ is)))
+
+pub returns-in-Broken-clause-cause : goal.returns-in-Broken-clause-cause
+returns-in-Broken-clause-cause g c =
+    (refl, λ file is. breaks c.frames.at c.frames.places.items file (c.frames.invariant.begins file is) (subst (λ (frame : Frame). IsFrame frame (drop c.frames.at file)) c.in-Broken.is (c.in_ok-frame_at.ensures.frame file (c.frames.invariant.reads.same ∙ is))))
+
+pub frames-preserved : goal.frames-preserved
+frames-preserved g c =
+    let ends = subst (λ (frame : Frame). EndsWithin (c.args.size - c.frames.at) frame) c.in-Open.is c.in_ok-frame_at.ensures.ends in
+    record {
+      reads = reads_then g.D.Disk.holds g.D.Disk.may_leave g.D.Disk.moment g.D.Disk.left_since g.D.Disk.count g.D.Disk.reserved g.met.D.Disk.counts_now c.args.disk.now c.frames.disk c.frame_at.new.disk c.frames.invariant.reads c.frame_at.ensures.reads;
+      window = λ file is. c.frame_at.ensures.window file (c.frames.invariant.reads.same ∙ is);
+      within = c.frame_at.ensures.within;
+      begins = λ file is. subst (λ (l : List Place). Begins (c.frames.at + (5 + c.in-Open.length)) l file) (sym c.in_ok-push-in-Open.ensures.items)
+          (begins_next c.frames.at c.in-Open.length c.frames.places.items file (c.frames.invariant.begins file is) (subst (λ (frame : Frame). IsFrame frame (drop c.frames.at file)) c.in-Open.is (c.in_ok-frame_at.ensures.frame file (c.frames.invariant.reads.same ∙ is))));
+      low = omega (arith, c.frames.invariant.low);
+      high = omega (arith, ends, c.frames.invariant.high);
+    }

@@ -1,0 +1,26 @@
+-- What a step of a log does to its disk.
+use Rattle.std.specs.Prelude.{◌≡◌, ◌≤◌, ◌⊎◌, ◌+◌, ℕ, List, ◌∷◌, ◌++◌, take, drop, length, Option}
+use Rattle.cw_disk.specs.Disk.{Adds}
+use Rattle.cw_log.specs.declared.window.Window.{Window}
+
+-- calls that read: the same content, no new image, no fewer faults, no less room
+pub record Reads {D : Type 0} (holds : D → Option (List ℕ)) (may_leave : D → List ℕ → Type 0) (moment : D → ℕ) (left_since : D → ℕ → List ℕ → Type 0) (count reserved : D → ℕ) (old new : D) : Type 0 where
+  pub same : holds new ≡ holds old
+  pub fewer : (image : List ℕ) → may_leave new image → may_leave old image
+  pub adds : Adds moment left_since old new (λ image. ⊥)
+  pub later : count old ≤ count new
+  pub room : reserved old ≤ reserved new
+
+-- the file as it was up to its closed gate, or the gate as whatever a torn byte is, with the whole tail behind it
+abbrev pub IsGated : ℕ → List ℕ → List ℕ → List ℕ → Type 0
+IsGated gate file tail image = (take (gate + 1) image ≡ file) ⊎ ((byte : ℕ) × (image ≡ take gate file ++ byte ∷ tail))
+
+-- these five bytes show what the bytes begin with, as far as they go
+abbrev pub Shows : List ℕ → List ℕ → Type 0
+Shows five bytes = take (length bytes) five ≡ take 5 bytes
+
+-- a window shows a part of the file
+pub record IsWindow (file : List ℕ) (window : Window) : Type 0 where
+  pub wide : 5 ≤ length window.bytes.items
+  pub filled : window.filled ≤ length window.bytes.items
+  pub shows : take window.filled window.bytes.items ≡ take window.filled (drop window.start file)

@@ -1,0 +1,119 @@
+// Calls of a disk, each with what it does to the images that a stop may leave.
+ghost use Rattle.std.specs.Prelude.{◌≡◌, ◌≤◌, ◌<◌, ◌+◌, ◌-◌, ◌^◌, List, ℕ, Some, length, take, drop, min, IfOk, IfErr, OnOk, OnErr, is_some, option_map, ◌++◌, ◌∷◌};
+ghost use Rattle.cw_disk.specs.Disk.{Only, Torn, Cut, Adds, written};
+ghost use Rattle.cw_types.specs.Faults.{Rose};
+ghost use Rattle.cw_log.specs.Calls.{Reads, IsGated};
+ghost use Rattle.cw_log.specs.State.{OnReadFault};
+
+use crate::ReadFault;
+use cw_disk::{Disk, Failed, Memory};
+use std::alloc::Global;
+
+// From an `Ok` on a stop leaves what a read gives.
+pub(crate) fn flush<D: Disk>(disk: &mut D) -> Result<(), Failed>
+    ensures durable { OnOk result ((file : List ℕ) → D.holds disk.old ≡ Some file → Only file (D.may_leave disk.new)) }
+    ensures reads { Reads D.holds D.may_leave D.moment D.left_since D.count D.reserved disk.old disk.new }
+    ensures cause { OnErr result (Rose (D.count disk.old) (D.count disk.new)) }
+{
+    disk.sync()
+}
+
+pub(crate) fn length_of<D: Disk>(disk: &mut D) -> Result<u64, Failed>
+    ensures length { IfOk result (λ n. (file : List ℕ) → D.holds disk.old ≡ Some file → n ≡ length file) }
+    ensures reads { Reads D.holds D.may_leave D.moment D.left_since D.count D.reserved disk.old disk.new }
+    ensures cause { OnErr result (Rose (D.count disk.old) (D.count disk.new)) }
+{
+    disk.len()
+}
+
+// Fills `into` from `at` on, as far as the disk has bytes.
+pub(crate) fn read<D: Disk>(disk: &mut D, at: u64, into: &mut [u8]) -> Result<usize, Failed>
+    ensures within { IfOk result (λ n. n ≤ length into.old) }
+    ensures bytes { IfOk result (λ n. (file : List ℕ) → D.holds disk.old ≡ Some file →
+        (n ≡ min (length into.old) (length file - at)) × (take n into.new ≡ take n (drop at file))) }
+    ensures reads { Reads D.holds D.may_leave D.moment D.left_since D.count D.reserved disk.old disk.new }
+    ensures cause { OnErr result (Rose (D.count disk.old) (D.count disk.new)) }
+{
+    disk.read_at(at, into)
+}
+
+// The bytes at a place, so many of them, or fewer where the disk ends.
+pub(crate) fn read_part<D: Disk>(
+    alloc: Global,
+    disk: &mut D,
+    at: u64,
+    size: usize,
+) -> Result<Vec<u8>, ReadFault>
+    ensures bytes { IfOk result (λ bytes. (file : List ℕ) → D.holds disk.old ≡ Some file → at + size ≤ length file → bytes.items ≡ take size (drop at file)) }
+    ensures reads { Reads D.holds D.may_leave D.moment D.left_since D.count D.reserved disk.old disk.new }
+    ensures cause { IfErr result (OnReadFault (Rose (D.count disk.old) (D.count disk.new)) (Unit {0})) }
+{
+    let mut bytes = Vec::new(alloc);
+    bytes.resize(size, 0)?;
+    let n = read(disk, at, bytes.as_mut_slice())?;
+    bytes.truncate(n);
+    Ok(bytes)
+}
+
+// Takes the memory of writes up to this length.
+pub(crate) fn prepare<D: Disk>(disk: &mut D, to: u64) -> Result<(), Memory>
+    ensures room { OnOk result (to ≤ D.reserved disk.new) }
+    ensures reads { Reads D.holds D.may_leave D.moment D.left_since D.count D.reserved disk.old disk.new }
+    ensures count { D.count disk.new ≡ D.count disk.old }
+{
+    disk.reserve(to)
+}
+
+// A write and a sync over a disk on which nothing is pending.
+pub(crate) fn put<D: Disk>(disk: &mut D, at: u64, from: &[u8]) -> Result<(), Failed>
+    requires start { (file : List ℕ) → D.holds disk.old ≡ Some file → at ≤ length file }
+    requires settled { (file : List ℕ) → D.holds disk.old ≡ Some file → Only file (D.may_leave disk.old) }
+    requires room { at + length from.now ≤ D.reserved disk.old }
+    ensures done { OnOk result (D.holds disk.new ≡ option_map (λ file. written file at from.now) (D.holds disk.old)) }
+    ensures durable { OnOk result ((file : List ℕ) → D.holds disk.new ≡ Some file → Only file (D.may_leave disk.new)) }
+    ensures told { is_some (D.holds disk.new) ≡ is_some (D.holds disk.old) }
+    ensures left { (file : List ℕ) → D.holds disk.old ≡ Some file → (image : List ℕ) → D.may_leave disk.new image → Torn at (length from.now) file image }
+    ensures adds { (file : List ℕ) → D.holds disk.old ≡ Some file → Adds D.moment D.left_since disk.old disk.new (Torn at (length from.now) file) }
+    ensures room { D.reserved disk.old ≤ D.reserved disk.new }
+    ensures later { D.count disk.old ≤ D.count disk.new }
+    ensures cause { OnErr result (Rose (D.count disk.old) (D.count disk.new)) }
+{
+    disk.write_at(at, from)?;
+    disk.sync()
+}
+
+// A cut and a sync over a disk on which nothing is pending.
+pub(crate) fn shorten<D: Disk>(disk: &mut D, to: u64) -> Result<(), Failed>
+    requires end { (file : List ℕ) → D.holds disk.old ≡ Some file → to ≤ length file }
+    requires settled { (file : List ℕ) → D.holds disk.old ≡ Some file → Only file (D.may_leave disk.old) }
+    ensures done { OnOk result (D.holds disk.new ≡ option_map (λ file. take to file) (D.holds disk.old)) }
+    ensures durable { OnOk result ((file : List ℕ) → D.holds disk.new ≡ Some file → Only file (D.may_leave disk.new)) }
+    ensures told { is_some (D.holds disk.new) ≡ is_some (D.holds disk.old) }
+    ensures left { (file : List ℕ) → D.holds disk.old ≡ Some file → (image : List ℕ) → D.may_leave disk.new image → Cut to file image }
+    ensures adds { (file : List ℕ) → D.holds disk.old ≡ Some file → Adds D.moment D.left_since disk.old disk.new (Cut to file) }
+    ensures room { D.reserved disk.old ≤ D.reserved disk.new }
+    ensures later { D.count disk.old ≤ D.count disk.new }
+    ensures cause { OnErr result (Rose (D.count disk.old) (D.count disk.new)) }
+{
+    disk.cut(to)?;
+    disk.sync()
+}
+
+// What stands behind a closed gate, which is the last byte, and then the gate open: two syncs.
+pub(crate) fn open_gate<D: Disk>(disk: &mut D, gate: u64, tail: &[u8]) -> Result<(), Failed>
+    requires start { (file : List ℕ) → D.holds disk.old ≡ Some file → gate + 1 ≡ length file }
+    requires settled { (file : List ℕ) → D.holds disk.old ≡ Some file → Only file (D.may_leave disk.old) }
+    requires room { gate + 1 + length tail.now ≤ D.reserved disk.old }
+    requires fits { gate + 1 + length tail.now < 2 ^ 64 }
+    ensures done { OnOk result (D.holds disk.new ≡ option_map (λ file. take gate file ++ 1 ∷ tail.now) (D.holds disk.old)) }
+    ensures durable { OnOk result ((file : List ℕ) → D.holds disk.new ≡ Some file → Only file (D.may_leave disk.new)) }
+    ensures told { is_some (D.holds disk.new) ≡ is_some (D.holds disk.old) }
+    ensures left { (file : List ℕ) → D.holds disk.old ≡ Some file → (image : List ℕ) → D.may_leave disk.new image → IsGated gate file tail.now image }
+    ensures adds { (file : List ℕ) → D.holds disk.old ≡ Some file → Adds D.moment D.left_since disk.old disk.new (IsGated gate file tail.now) }
+    ensures room { D.reserved disk.old ≤ D.reserved disk.new }
+    ensures later { D.count disk.old ≤ D.count disk.new }
+    ensures cause { OnErr result (Rose (D.count disk.old) (D.count disk.new)) }
+{
+    put(disk, gate + 1, tail)?;
+    put(disk, gate, &[1])
+}

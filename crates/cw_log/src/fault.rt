@@ -1,0 +1,154 @@
+// What may be wrong with a log, and with a call of it.
+use cw_disk::Failed;
+use std::alloc::{AllocError, AllocFailed};
+
+/// What may be wrong with the bytes of a log, in the order in which it is looked for on one disk; the
+/// last two are found by whoever reads the bodies.
+#[derive(Clone, Copy, Debug, PartialEq, Eq, Drop)]
+pub enum Harm {
+    /// The three letters behind the first gate are others.
+    Magic,
+    /// The version is another.
+    Version,
+    /// The file is one of another log.
+    Kind,
+    /// Fewer than 17 bytes, or one of the two bytes that are 0 is not.
+    Header,
+    /// Two sides have one number.
+    SameSide,
+    /// A frame's length is 0 or passes the end, or the file ends where a gate is due.
+    Length,
+    /// A body is none of this log, or not allowed at its place.
+    Content,
+    /// A body breaks a fact over several logs.
+    Unsafe,
+}
+
+/// Why a log was not opened.
+#[derive(Clone, Copy, Debug, PartialEq, Eq, Drop)]
+pub enum OpenCause {
+    /// The first harm of the file, and the place of the gate that it is about.
+    Damaged {
+        /// The place of the gate.
+        at: u64,
+        /// What is wrong.
+        harm: Harm,
+    },
+    /// The disk failed: its count rose.
+    Failed,
+    /// Want of memory.
+    Memory,
+}
+
+impl From<Failed> for OpenCause {
+    ghost use Rattle.std.specs.Prelude.{◌≡◌};
+    ghost use Rattle.cw_log.specs.declared.fault.OpenCause.TheVariants.{Failed};
+
+    ghost from_gives = { λ _ cause. cause ≡ Failed };
+
+    fn from(_: Failed) -> Self {
+        OpenCause::Failed
+    }
+}
+
+impl From<AllocError> for OpenCause {
+    ghost use Rattle.std.specs.Prelude.{◌≡◌};
+    ghost use Rattle.cw_log.specs.declared.fault.OpenCause.TheVariants.{Memory};
+
+    ghost from_gives = { λ _ cause. cause ≡ Memory };
+
+    fn from(_: AllocError) -> Self {
+        OpenCause::Memory
+    }
+}
+
+impl<T: Drop> From<AllocFailed<T>> for OpenCause {
+    ghost use Rattle.std.specs.Prelude.{◌≡◌};
+    ghost use Rattle.cw_log.specs.declared.fault.OpenCause.TheVariants.{Memory};
+
+    ghost from_gives = { λ _ cause. cause ≡ Memory };
+
+    fn from(_: AllocFailed<T>) -> Self {
+        OpenCause::Memory
+    }
+}
+
+/// Why a body was not appended.
+#[derive(Clone, Copy, Debug, PartialEq, Eq, Drop)]
+pub enum AppendFault {
+    /// The disk failed: its count rose. A stop may leave the list with the body or without it.
+    Failed,
+    /// The log has no room: `length + frame` passes its limit.
+    Full {
+        /// The bytes of the log, up to and with its closed gate.
+        length: u64,
+        /// The bytes that the frame has.
+        frame: u64,
+    },
+    /// An earlier append of this log has failed.
+    Shut,
+    /// Want of memory.
+    Memory,
+}
+
+impl From<Failed> for AppendFault {
+    ghost use Rattle.std.specs.Prelude.{◌≡◌};
+    ghost use Rattle.cw_log.specs.declared.fault.AppendFault.TheVariants.{Failed};
+
+    ghost from_gives = { λ _ fault. fault ≡ Failed };
+
+    fn from(_: Failed) -> Self {
+        AppendFault::Failed
+    }
+}
+
+impl From<AllocError> for AppendFault {
+    ghost use Rattle.std.specs.Prelude.{◌≡◌};
+    ghost use Rattle.cw_log.specs.declared.fault.AppendFault.TheVariants.{Memory};
+
+    ghost from_gives = { λ _ fault. fault ≡ Memory };
+
+    fn from(_: AllocError) -> Self {
+        AppendFault::Memory
+    }
+}
+
+/// Why a body was not read.
+#[derive(Clone, Copy, Debug, PartialEq, Eq, Drop)]
+pub enum ReadFault {
+    /// The disk failed: its count rose.
+    Failed,
+    /// Want of memory.
+    Memory,
+}
+
+impl From<Failed> for ReadFault {
+    ghost use Rattle.std.specs.Prelude.{◌≡◌};
+    ghost use Rattle.cw_log.specs.declared.fault.ReadFault.TheVariants.{Failed};
+
+    ghost from_gives = { λ _ fault. fault ≡ Failed };
+
+    fn from(_: Failed) -> Self {
+        ReadFault::Failed
+    }
+}
+
+impl From<AllocError> for ReadFault {
+    ghost use Rattle.std.specs.Prelude.{◌≡◌};
+    ghost use Rattle.cw_log.specs.declared.fault.ReadFault.TheVariants.{Memory};
+
+    ghost from_gives = { λ _ fault. fault ≡ Memory };
+
+    fn from(_: AllocError) -> Self {
+        ReadFault::Memory
+    }
+}
+
+/// A disk that was not opened as a log, and why.
+#[derive(Drop)]
+pub struct OpenFault<D> {
+    /// The disk that was handed in.
+    pub disk: D,
+    /// Why it was not opened.
+    pub cause: OpenCause,
+}

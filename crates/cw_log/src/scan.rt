@@ -1,0 +1,77 @@
+// Reading the frames of a made file.
+ghost use Rattle.std.specs.Prelude.{◌≡◌, ◌≤◌, ◌<◌, ◌+◌, ◌-◌, ◌^◌, List, ℕ, Some, length, take, drop, IfOk, IfErr, OnErr};
+ghost use Rattle.cw_types.specs.Faults.{Rose};
+ghost use Rattle.cw_log.specs.Calls.{Reads, Shows, IsWindow};
+ghost use Rattle.cw_log.specs.Log.{IsFrame, EndsWithin, Begins, BreaksAt, OnCause};
+
+use crate::{Found, Frame, Harm, OpenCause, Place, Window};
+use cw_disk::{Disk, Failed};
+use std::alloc::Global;
+
+// The frame that five bytes show, where so many are left in the file.
+fn frame_of(five: &[u8], left: u64) -> Frame
+    requires five { length five.now ≡ 5 }
+    requires some { 0 < left }
+    ensures frame { (bytes : List ℕ) → length bytes ≡ left → Shows five.now bytes → IsFrame result bytes }
+    ensures within { EndsWithin left result }
+{
+    if five[0] == 0 {
+        return Frame::Closed;
+    }
+    if left < 5 {
+        return Frame::Broken;
+    }
+    let length = u32::from_be_bytes([five[1], five[2], five[3], five[4]]) as u64;
+    if length == 0 || left - 5 < length {
+        return Frame::Broken;
+    }
+    Frame::Open(length)
+}
+
+// The frame at a place of a file of this size.
+fn frame_at<D: Disk>(disk: &mut D, window: &mut Window, at: u64, size: u64) -> Result<Frame, Failed>
+    requires size { (file : List ℕ) → D.holds disk.old ≡ Some file → size ≡ length file }
+    requires window { (file : List ℕ) → D.holds disk.old ≡ Some file → IsWindow file window.old }
+    requires within { window.old.filled ≤ length window.old.bytes.items }
+    ensures window { (file : List ℕ) → D.holds disk.old ≡ Some file → IsWindow file window.new }
+    ensures within { window.new.filled ≤ length window.new.bytes.items }
+    ensures frame { IfOk result (λ frame. (file : List ℕ) → D.holds disk.old ≡ Some file → IsFrame frame (drop at file)) }
+    ensures ends { IfOk result (EndsWithin (size - at)) }
+    ensures reads { Reads D.holds D.may_leave D.moment D.left_since D.count D.reserved disk.old disk.new }
+    ensures cause { OnErr result (Rose (D.count disk.old) (D.count disk.new)) }
+{
+    if at >= size {
+        return Ok(Frame::Broken);
+    }
+    let five = window.peek(disk, at)?;
+    Ok(frame_of(&five, size - at))
+}
+
+/// The frames of a file of this size, which has a header.
+pub(crate) fn scan<D: Disk>(alloc: Global, disk: &mut D, size: u64) -> Result<Found, OpenCause>
+    requires size { (file : List ℕ) → D.holds disk.old ≡ Some file → size ≡ length file }
+    requires long { 16 ≤ size }
+    ensures found { IfOk result (λ found. (file : List ℕ) → D.holds disk.old ≡ Some file → Begins found.gate found.places.items file × IsFrame Frame.Closed (drop found.gate file)) }
+    ensures gate { IfOk result (λ found. (16 ≤ found.gate) × (found.gate < size)) }
+    ensures cause { IfErr result (OnCause (λ at harm. (harm ≡ Harm.Length) × ((file : List ℕ) → D.holds disk.old ≡ Some file → BreaksAt at file)) (Rose (D.count disk.old) (D.count disk.new)) (Unit {0})) }
+    ensures reads { Reads D.holds D.may_leave D.moment D.left_since D.count D.reserved disk.old disk.new }
+{
+    let mut places = Vec::new(alloc);
+    let mut window = Window::new(alloc)?;
+    let mut at = 16;
+    'frames: loop {
+        match frame_at(disk, &mut window, at, size)? {
+            Frame::Closed => return Ok(Found { places, gate: at }),
+            Frame::Broken => {
+                return Err(OpenCause::Damaged {
+                    at,
+                    harm: Harm::Length,
+                });
+            }
+            Frame::Open(length) => {
+                places.push(Place { at, length })?;
+                at += 5 + length;
+            }
+        }
+    }
+}

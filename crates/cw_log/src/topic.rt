@@ -1,0 +1,287 @@
+// One log on one disk.
+ghost use Rattle.std.specs.Prelude.{◌≡◌, ◌⊎◌, ◌≤◌, ◌<◌, ◌+◌, ◌^◌, ◌++◌, ◌∷◌, [], List, ℕ, Option, Some, None, Bool, true, false, length, OnOk, OnErr, IfOk, IfErr, MatchResult, option_map, is_some, is_ok, is_err, if◌then◌else◌, slice_index_or};
+ghost use Rattle.cw_disk.specs.Disk.{Only, Adds};
+ghost use Rattle.cw_types.specs.Faults.{Rose};
+ghost use Rattle.cw_log.specs.Calls.{Reads};
+ghost use Rattle.cw_log.specs.Log.{StandsFor, StandAlike, BeforeOrAfter, IsDamaged, OnCause, kind_of};
+ghost use Rattle.cw_log.specs.State.{LogState, OnAppendFault, OnReadFault, OpensTo, IsSameLog, HasSameList, IsAppendable};
+
+use crate::calls::{prepare, read_part};
+use crate::frame::{push_place, write_frame};
+use crate::open::opened;
+use crate::{AppendFault, OpenFault, Place, ReadFault};
+use cw_disk::{Disk, Failed, Memory};
+use cw_types::LogName;
+use std::alloc::Global;
+use std::marker::Model;
+
+/// A log of bodies on one disk. Whatever moment a stop comes at, what is found again is the list before
+/// the append in hand or after it, and never less than what was acknowledged.
+#[derive(Drop)]
+pub struct TopicLog<D: Disk> {
+    alloc: Global,
+    disk: D,
+    kind: u8,
+    limit: u64,
+    places: Vec<Place>,
+    gate: u64,
+    tail: Vec<u8>,
+    ready: u64,
+    shut: bool,
+    failed: Option<u64>,
+}
+
+impl<D: Disk> Model for TopicLog<D> {
+    ghost use Rattle.std.specs.Prelude.{◌+◌, option_map, length};
+    ghost use Rattle.cw_log.specs.Log.{bodies_at};
+    ghost use Rattle.cw_log.specs.State.{LogState, IsLog};
+
+    ghost Value = { LogState D };
+
+    ghost view = { λ l. record { disk = l.disk; kind = l.kind; bodies = option_map (bodies_at l.places.items) (D.holds l.disk); count = length l.places.items; length = l.gate + 1; limit = l.limit; ready = l.ready; shut = l.shut; failed = option_map (λ n. (0, n)) l.failed } };
+
+    ghost invariant = { λ l. IsLog D.holds D.may_leave D.reserved l.disk l.kind l.gate l.ready l.places l.tail l.shut };
+}
+
+impl<D: Disk> TopicLog<D> {
+    /// Opens the log of this name on a disk, or makes it where the file is unmade. It may have `limit`
+    /// bytes. The disk is synced, then read in one pass, and what lies behind the closed gate is cut
+    /// off. `Damaged` comes exactly where the file has a harm, its first one; with each `Err` the disk
+    /// comes back.
+    pub fn open_log(
+        alloc: Global,
+        disk: D,
+        name: LogName,
+        limit: u64,
+    ) -> Result<TopicLog<D>, OpenFault<D>>
+        // The list is the one that the file stands for.
+        ensures list { IfOk result (λ log. (file : List ℕ) → D.holds disk ≡ Some file →
+            (bodies : List (List ℕ)) × (log.bodies ≡ Some bodies) × StandsFor (kind_of name) bodies file) }
+        ensures told { IfOk result (λ log. is_some log.bodies ≡ is_some (D.holds disk)) }
+        ensures new { IfOk result (λ log. (log.kind ≡ kind_of name) × (log.limit ≡ limit) × (log.shut ≡ false) × (log.failed ≡ None)) }
+
+        ensures cause { IfErr result (λ fault. OnCause
+            (λ at harm. (D.holds fault.disk ≡ D.holds disk) × ((file : List ℕ) → D.holds disk ≡ Some file → IsDamaged (kind_of name) file at harm))
+            (Rose (D.count disk) (D.count fault.disk))
+            (D.holds fault.disk ≡ D.holds disk) fault.cause) }
+
+        // What a stop may leave now it might have left before, or it stands for the same list.
+        ensures left { (file : List ℕ) → D.holds disk ≡ Some file → MatchResult result
+            (λ log. (image : List ℕ) → D.may_leave log.disk image → D.may_leave disk image ⊎ StandAlike (kind_of name) file image)
+            (λ fault. (image : List ℕ) → D.may_leave fault.disk image → D.may_leave disk image ⊎ StandAlike (kind_of name) file image) }
+
+        // A stop at any moment of the call leaves a file that stands for the same list.
+        ensures any_moment { (file : List ℕ) → D.holds disk ≡ Some file → MatchResult result
+            (λ log. Adds D.moment D.left_since disk log.disk (StandAlike (kind_of name) file))
+            (λ fault. Adds D.moment D.left_since disk fault.disk (StandAlike (kind_of name) file)) }
+        ensures later { MatchResult result (λ log. D.count disk ≤ D.count log.disk) (λ fault. D.count disk ≤ D.count fault.disk) }
+    {
+        let mut disk = disk;
+        let kind = kind_number(name);
+        match opened(alloc, &mut disk, kind) {
+            Ok(found) => Ok(TopicLog {
+                alloc,
+                disk,
+                kind,
+                limit,
+                places: found.places,
+                gate: found.gate,
+                tail: Vec::new(alloc),
+                ready: 0,
+                shut: false,
+                failed: None,
+            }),
+            Err(cause) => Err(OpenFault { disk, cause }),
+        }
+    }
+
+    /// Takes the memory of an append of at most `body` bytes, the disk's included.
+    pub fn reserve(&mut self, body: usize) -> Result<(), Memory>
+        ensures ready { OnOk result (body ≤ self.new.ready) }
+        ensures memory { OnErr result (self.old.ready < body) }
+        ensures same { IsSameLog self.old self.new }
+        ensures less { self.old.ready ≤ self.new.ready }
+        ensures reads { Reads D.holds D.may_leave D.moment D.left_since D.count D.reserved self.old.disk self.new.disk }
+        ensures count { D.count self.new.disk ≡ D.count self.old.disk }
+    {
+        if body as u64 <= self.ready {
+            return Ok(());
+        }
+        self.tail.clear();
+        self.tail.reserve(body.saturating_add(5))?;
+        self.places.reserve(1)?;
+        prepare(
+            &mut self.disk,
+            (self.gate + 1).saturating_add((body as u64).saturating_add(5)),
+        )?;
+        self.ready = body as u64;
+        Ok(())
+    }
+
+    /// Appends a body of 1 to 2^28 bytes, and answers its number. `Shut` comes where an earlier append
+    /// has failed, else `Full` where its frame, of five bytes more, would pass the limit.
+    pub fn append(&mut self, body: &[u8]) -> Result<u64, AppendFault>
+        requires some { 1 ≤ length body.now }
+        requires few { length body.now ≤ 2 ^ 28 }
+
+        ensures bodies { OnOk result (self.new.bodies ≡ option_map (λ bodies. bodies ++ body.now ∷ []) self.old.bodies) }
+        ensures number { IfOk result (λ number. number ≡ self.old.count) }
+        ensures count { OnOk result (self.new.count ≡ self.old.count + 1) }
+        ensures length { OnOk result (self.new.length ≡ self.old.length + (length body.now + 5)) }
+        ensures alive { OnOk result ((self.old.shut ≡ false) × (self.new.shut ≡ false) × (self.new.failed ≡ self.old.failed)) }
+        ensures fits { OnOk result (self.old.length + (length body.now + 5) ≤ self.old.limit) }
+
+        // Shut exactly where it is due, else Full exactly where it is due; Failed only where the disk's count rose.
+        ensures fault { IfErr result (OnAppendFault
+            (IsAppendable (length body.now) self.old × (self.new.shut ≡ true) × (self.new.failed ≡ Some (0, D.count self.new.disk)) × Rose (D.count self.old.disk) (D.count self.new.disk))
+            (λ long frame. (self.old.shut ≡ false) × (long ≡ self.old.length) × (frame ≡ length body.now + 5) × (self.old.limit < long + frame) × (self.new ≡ self.old))
+            ((self.old.shut ≡ true) × (self.new ≡ self.old))
+            (IsAppendable (length body.now) self.old × (self.old.ready < length body.now) × IsSameLog self.old self.new)) }
+        ensures same { OnErr result ((self.new.bodies ≡ self.old.bodies) × (self.new.count ≡ self.old.count) × (self.new.length ≡ self.old.length)) }
+        ensures kind { self.new.kind ≡ self.old.kind }
+        ensures limit { self.new.limit ≡ self.old.limit }
+        ensures told { is_some self.new.bodies ≡ is_some self.old.bodies }
+        ensures later { D.count self.old.disk ≤ D.count self.new.disk }
+
+        // What a stop may leave now, also behind a failure, is the list before or after.
+        ensures left { self.old.shut ≡ false → (bodies : List (List ℕ)) → self.old.bodies ≡ Some bodies →
+            (image : List ℕ) → D.may_leave self.new.disk image → BeforeOrAfter self.old.kind bodies body.now image }
+
+        // So is what a stop at any moment of the call leaves.
+        ensures any_moment { self.old.shut ≡ false → (bodies : List (List ℕ)) → self.old.bodies ≡ Some bodies →
+            Adds D.moment D.left_since self.old.disk self.new.disk (BeforeOrAfter self.old.kind bodies body.now) }
+    {
+        if self.shut {
+            return Err(AppendFault::Shut);
+        }
+        let length = self.gate + 1;
+        let frame = body.len() as u64 + 5;
+        if self.limit < length || self.limit - length < frame {
+            return Err(AppendFault::Full { length, frame });
+        }
+        self.reserve(body.len())?;
+        self.add(body)?;
+        Ok(self.places.len() as u64 - 1)
+    }
+
+    /// How many bodies there are.
+    pub fn count(&self) -> u64
+        ensures { result ≡ self.now.count }
+    {
+        self.places.len() as u64
+    }
+
+    /// How many bytes there are, up to and with the closed gate.
+    pub fn length(&self) -> u64
+        ensures { result ≡ self.now.length }
+    {
+        self.gate + 1
+    }
+
+    /// The body of this number, which is below the count.
+    pub fn read_body(&mut self, index: u64) -> Result<Vec<u8>, ReadFault>
+        requires { index < self.old.count }
+        ensures body { IfOk result (λ body. (bodies : List (List ℕ)) → self.old.bodies ≡ Some bodies → body.items ≡ slice_index_or bodies index []) }
+        ensures fault { IfErr result (OnReadFault
+            (Rose (D.count self.old.disk) (D.count self.new.disk) × (self.new.failed ≡ Some (0, D.count self.new.disk)))
+            (self.new.failed ≡ self.old.failed)) }
+        ensures ok { OnOk result (self.new.failed ≡ self.old.failed) }
+        ensures same { HasSameList self.old self.new }
+        ensures reads { Reads D.holds D.may_leave D.moment D.left_since D.count D.reserved self.old.disk self.new.disk }
+    {
+        let place = self.places[index as usize];
+        match read_part(
+            self.alloc,
+            &mut self.disk,
+            place.at.saturating_add(5),
+            place.length as usize,
+        ) {
+            Ok(body) => Ok(body),
+            Err(ReadFault::Memory) => Err(ReadFault::Memory),
+            Err(ReadFault::Failed) => {
+                self.failed = Some(self.disk.faults());
+                Err(ReadFault::Failed)
+            }
+        }
+    }
+
+    /// The side, 0, and the disk's count of faults behind it, of the last call that failed.
+    pub fn failed(&self) -> Option<(u8, u64)>
+        ensures { result ≡ self.now.failed }
+    {
+        match self.failed {
+            Some(count) => Some((0, count)),
+            None => None,
+        }
+    }
+
+    /// What a stop leaves of a log in which no append has failed. It does nothing.
+    pub fn rest(&self)
+        ensures { self.now.shut ≡ false → (bodies : List (List ℕ)) → self.now.bodies ≡ Some bodies →
+            (image : List ℕ) → D.may_leave self.now.disk image → StandsFor self.now.kind bodies image }
+    {
+        let _ = &self.disk;
+    }
+
+    /// Gives the disk back.
+    pub fn give_back(self) -> D
+        ensures disk { result ≡ self.disk }
+        ensures rest { self.shut ≡ false → (bodies : List (List ℕ)) → self.bodies ≡ Some bodies →
+            (image : List ℕ) → D.may_leave result image → StandsFor self.kind bodies image }
+    {
+        self.disk
+    }
+
+    // Appends a body for which there is room: puts the frame behind the gate, and opens it.
+    fn add(&mut self, body: &[u8]) -> Result<(), Failed>
+        requires opened { self.old.shut ≡ false }
+        requires some { 1 ≤ length body.now }
+        requires few { length body.now ≤ 2 ^ 28 }
+        requires room { length body.now ≤ self.old.ready }
+        requires fits { self.old.length + (length body.now + 5) < 2 ^ 64 }
+        ensures bodies { OnOk result (self.new.bodies ≡ option_map (λ bodies. bodies ++ body.now ∷ []) self.old.bodies) }
+        ensures kept { OnErr result (self.new.bodies ≡ self.old.bodies) }
+        ensures count { self.new.count ≡ (if is_ok result then self.old.count + 1 else self.old.count) }
+        ensures length { self.new.length ≡ (if is_ok result then self.old.length + (length body.now + 5) else self.old.length) }
+        ensures shut { self.new.shut ≡ is_err result }
+        ensures failed { self.new.failed ≡ (if is_ok result then self.old.failed else Some (0, D.count self.new.disk)) }
+        ensures kind { self.new.kind ≡ self.old.kind }
+        ensures limit { self.new.limit ≡ self.old.limit }
+        ensures told { is_some self.new.bodies ≡ is_some self.old.bodies }
+        ensures left { (bodies : List (List ℕ)) → self.old.bodies ≡ Some bodies → (image : List ℕ) → D.may_leave self.new.disk image → BeforeOrAfter self.old.kind bodies body.now image }
+        ensures any_moment { (bodies : List (List ℕ)) → self.old.bodies ≡ Some bodies →
+            Adds D.moment D.left_since self.old.disk self.new.disk (BeforeOrAfter self.old.kind bodies body.now) }
+        ensures later { D.count self.old.disk ≤ D.count self.new.disk }
+        ensures cause { OnErr result (Rose (D.count self.old.disk) (D.count self.new.disk)) }
+    {
+        let gate = self.gate;
+        let length = body.len() as u64;
+        self.shut = true;
+        self.ready = 0;
+        match write_frame(&mut self.disk, gate, &mut self.tail, body) {
+            Ok(()) => {
+                push_place(&mut self.places, Place { at: gate, length });
+                self.gate = gate + (length + 5);
+                self.shut = false;
+                Ok(())
+            }
+            Err(fault) => {
+                self.failed = Some(self.disk.faults());
+                Err(fault)
+            }
+        }
+    }
+}
+
+// The number of a log's kind.
+fn kind_number(name: LogName) -> u8
+    ensures { result ≡ kind_of name }
+{
+    match name {
+        LogName::Config => 1,
+        LogName::Offsets => 2,
+        LogName::Status => 3,
+        LogName::Txn => 4,
+        LogName::Batches => 5,
+    }
+}

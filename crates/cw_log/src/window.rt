@@ -1,0 +1,90 @@
+// A part of a file in memory, so that small frames are not read one by one.
+ghost use Rattle.std.specs.Prelude.{◌≡◌, ◌≤◌, ◌<◌, ◌+◌, ◌-◌, List, ℕ, Some, length, take, drop, IfOk, OnOk, OnErr, min, true};
+ghost use Rattle.cw_types.specs.Faults.{Rose};
+ghost use Rattle.cw_log.specs.Calls.{Reads, Shows};
+
+use crate::calls::read;
+use cw_disk::{Disk, Failed};
+use std::alloc::{AllocError, Global};
+
+// How many bytes are read at once.
+const WIDTH: usize = 65536;
+
+/// A part of a file in memory.
+#[derive(Drop)]
+pub struct Window {
+    bytes: Vec<u8>,
+    start: u64,
+    filled: usize,
+}
+
+impl Window {
+    ghost use Rattle.cw_log.specs.Calls.{IsWindow};
+
+    pub(crate) fn new(alloc: Global) -> Result<Window, AllocError>
+        ensures window { IfOk result (λ window. (file : List ℕ) → IsWindow file window) }
+        ensures within { IfOk result (λ window. window.filled ≤ length window.bytes.items) }
+    {
+        let mut bytes = Vec::new(alloc);
+        bytes.resize(WIDTH, 0)?;
+        Ok(Window {
+            bytes,
+            start: 0,
+            filled: 0,
+        })
+    }
+
+    // Whether the five bytes from `at` on are in it.
+    fn has(&self, at: u64) -> bool
+        ensures { result ≡ true → (self.now.start ≤ at) × (at - self.now.start + 5 ≤ self.now.filled) }
+    {
+        at >= self.start && self.filled >= 5 && at - self.start <= (self.filled - 5) as u64
+    }
+
+    // Reads the part from `at` on.
+    fn fill<D: Disk>(&mut self, disk: &mut D, at: u64) -> Result<(), Failed>
+        requires { (file : List ℕ) → D.holds disk.old ≡ Some file → IsWindow file self.old }
+        ensures window { (file : List ℕ) → D.holds disk.old ≡ Some file → IsWindow file self.new }
+        ensures start { OnOk result (self.new.start ≡ at) }
+        ensures filled { OnOk result ((file : List ℕ) → D.holds disk.old ≡ Some file → self.new.filled ≡ min (length self.new.bytes.items) (length file - at)) }
+        ensures within { self.new.filled ≤ length self.new.bytes.items }
+        ensures reads { Reads D.holds D.may_leave D.moment D.left_since D.count D.reserved disk.old disk.new }
+        ensures cause { OnErr result (Rose (D.count disk.old) (D.count disk.new)) }
+    {
+        self.filled = 0;
+        let n = read(disk, at, self.bytes.as_mut_slice())?;
+        self.start = at;
+        self.filled = n;
+        Ok(())
+    }
+
+    // The five bytes from `at` on, as far as there are so many.
+    pub(crate) fn peek<D: Disk>(&mut self, disk: &mut D, at: u64) -> Result<[u8; 5], Failed>
+        requires window { (file : List ℕ) → D.holds disk.old ≡ Some file → IsWindow file self.old }
+        requires within { self.old.filled ≤ length self.old.bytes.items }
+        ensures window { (file : List ℕ) → D.holds disk.old ≡ Some file → IsWindow file self.new }
+        ensures within { self.new.filled ≤ length self.new.bytes.items }
+        ensures five { IfOk result (λ five. (file : List ℕ) → D.holds disk.old ≡ Some file → Shows five (drop at file)) }
+        ensures reads { Reads D.holds D.may_leave D.moment D.left_since D.count D.reserved disk.old disk.new }
+        ensures cause { OnErr result (Rose (D.count disk.old) (D.count disk.new)) }
+    {
+        if self.has(at) {
+            return Ok(five_of(&self.bytes[..self.filled], (at - self.start) as usize));
+        }
+        self.fill(disk, at)?;
+        Ok(five_of(&self.bytes[..self.filled], 0))
+    }
+}
+
+// Up to five bytes from a place on, and 0 behind them.
+fn five_of(bytes: &[u8], from: usize) -> [u8; 5]
+    requires { from ≤ length bytes.now }
+    ensures shows { Shows result (drop from bytes.now) }
+    ensures size { length result ≡ 5 }
+{
+    let rest = &bytes[from..];
+    let n = rest.len().min(5);
+    let mut five = [0; 5];
+    five[..n].copy_from_slice(&rest[..n]);
+    five
+}
