@@ -8,3 +8,5 @@ pub mod Chained
 pub mod Numbered
 pub mod Ended
 pub mod DistinctParts
+pub mod Bodies
+pub mod Written

@@ -9,7 +9,6 @@ use Rattle.std.specs.Cmp.Lexicographic.{slice_cmp}
 use Rattle.std.proofs.lemmas.Bool.Decides.{nat_tests, Decides-and, Decides-like, Decides-eqb, same_from_decides}
 use Rattle.std.proofs.lemmas.Slice.Eq.{bytes_eq-Decides}
 use Rattle.std.proofs.lemmas.Map.Text.{is_eq-slice_cmp}
-use Rattle.cw_types.specs.declared.ids.TaskId.{TaskId}
 use Rattle.cw_types.specs.declared.ids.Tid.{Tid}
 use Rattle.cw_types.specs.declared.ids.Tid.TheVariants.{Lead, Task, Raw as RawId}
 use Rattle.cw_types.specs.declared.ids.Tag.{Tag}

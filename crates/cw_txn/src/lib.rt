@@ -3,9 +3,10 @@
 //! Its public contract says that its meaning is a list of entries, that this list is always legal and that
 //! every part's spans chain, and that a commit or a set is refused exactly where its epoch isn't the
 //! producer's last, whatever its generation.
-//! It stands on the ids and spans of `cw_types`.
+//! It stands on the ids and spans of `cw_types` and the fields of `cw_bytes`.
 #![tactic(auto)]
 
+mod body;
 mod coordinator;
 mod entry;
 mod rows;
@@ -13,5 +14,6 @@ mod tables;
 #[cfg(test)]
 mod tests;
 
+pub use body::{BodyFault, read_entries, write_entries};
 pub use coordinator::{Coordinator, TxnFault, raw_transactions_are_new};
 pub use entry::{Entry, SetOffset};

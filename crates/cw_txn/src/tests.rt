@@ -1,5 +1,5 @@
 //! Runs of the coordinator against answers that come from an independent model.
-use crate::{Coordinator, Entry, SetOffset, TxnFault};
+use crate::{BodyFault, Coordinator, Entry, SetOffset, TxnFault, read_entries, write_entries};
 use cw_types::{Decided, Epoch, Listed, Name, PartKey, Span, Tag, TaskId, Tid, Verdict};
 use std::process::Abort;
 use std::test::Fail;
@@ -152,5 +152,38 @@ fn reserved_entries_are_written_and_given_up(rt: HostRuntime) -> Result<(), Fail
     txn.release();
     assert_eq!(rt; txn.entries().len(), 2);
     assert!(rt; txn.is_committed(&tag(1, 1, 1)));
+    Ok(())
+}
+
+#[test]
+fn bodies_are_the_bytes_of_their_entries(rt: HostRuntime) -> Result<(), Fail> {
+    let bump = [Entry::Bump(Tid::Raw(0))];
+    let body = b"\x00\x00\x00\x01\x01\x03\x00\x00\x00\x00".as_slice();
+    assert_eq!(rt; write_entries(rt.alloc(), &bump)?.as_slice(), body);
+    // Bodies, and how many entries each has; none where it has no reading.
+    let table: [(&[u8], Option<usize>); 7] = [
+        (body, Some(1)),
+        (
+            b"\x00\x00\x00\x02\x01\x02\x00\x00\x00\x01a\x00\x00\x00\x00\x01\x03\x00\x00\x00\x02",
+            Some(2),
+        ),
+        (
+            b"\x00\x00\x00\x01\x03\x01\x00\x00\x00\x00\x00\x00\x00\x02\x00\x00\x00\x00",
+            Some(1),
+        ),
+        (b"", None),
+        (b"\x00\x00\x00\x00", None),
+        (b"\x00\x00\x00\x01\x04\x01", None),
+        (b"\x00\x00\x00\x01\x01\x01\x00", None),
+    ];
+    for (bytes, count) in table {
+        match read_entries(rt.alloc(), bytes) {
+            Ok(entries) => assert_eq!(rt; Some(entries.len()), count),
+            Err(fault) => {
+                assert!(rt; fault == BodyFault::NotEntries);
+                assert!(rt; count.is_none());
+            }
+        }
+    }
     Ok(())
 }

@@ -1,0 +1,4 @@
+pub mod Unread
+pub mod Spelling
+pub mod Reading
+pub mod Input

@@ -1,0 +1,216 @@
+//! Reading one field behind the other.
+ghost use Rattle.std.specs.Prelude.{◌≡◌};
+ghost use Rattle.cw_bytes.specs.Input.{unread};
+ghost use Rattle.cw_bytes.specs.Reading.{Gives, cut_at, text_at, name_at, task_at, raw_id_at, tid_at, tag_at, raw_part_at, file_at, seq_at, sink_at, part_at, span_at, some_text_at, value_at, record_at, many_at, records_at};
+
+use crate::applied::Applied;
+use crate::fault::FieldFault;
+use crate::input::Input;
+use crate::numbers::{past, u8_of, u32_of, u64_of};
+use cw_types::{Epoch, Listed, Name, NameFault, PartKey, Span, Tag, TaskId, Tid};
+use std::alloc::Global;
+
+fn cut<'a>(place: usize, count: usize, from: Input<'a>) -> Result<(&'a [u8], Input<'a>), FieldFault>
+    ensures { Gives (λ x. (x.0.now, unread x.1)) result (cut_at place count (unread from.entry)) }
+{
+    if from.rest.len() < count {
+        return Err(FieldFault::Short(place));
+    }
+    Ok((&from.rest[..count], past(from, count)))
+}
+
+#[tactic(auto, unfolding(crate::specs::Reading::text_at))]
+pub fn text_of(from: Input<'_>) -> Result<(&[u8], Input<'_>), FieldFault>
+    ensures { Gives (λ x. (x.0.now, unread x.1)) result (text_at (unread from.entry)) }
+{
+    let (count, rest) = u32_of(from)?;
+    cut(from.place, count as usize, rest)
+}
+
+#[tactic(auto, unfolding(crate::specs::Reading::name_at))]
+fn name_of(alloc: Global, from: Input<'_>) -> Result<(Name, Input<'_>), FieldFault>
+    ensures { Gives (λ x. (x.0, unread x.1)) result (name_at (unread from.entry)) }
+{
+    let (text, rest) = text_of(from)?;
+    match Name::read(alloc, text) {
+        Ok(name) => Ok((name, rest)),
+        Err(NameFault::Empty) => Err(FieldFault::BadName(from.place)),
+        Err(NameFault::TooLong) => Err(FieldFault::BadName(from.place)),
+        Err(NameFault::BadByte(_)) => Err(FieldFault::BadName(from.place)),
+        Err(NameFault::Memory) => Err(FieldFault::Memory),
+    }
+}
+
+#[tactic(auto, unfolding(crate::specs::Reading::task_at))]
+fn task_of(alloc: Global, from: Input<'_>) -> Result<(Tid, Input<'_>), FieldFault>
+    ensures { Gives (λ x. (x.0, unread x.1)) result (task_at (unread from.entry)) }
+{
+    let (connector, rest) = name_of(alloc, from)?;
+    let (index, rest) = u32_of(rest)?;
+    Ok((Tid::Task(TaskId { connector, index }), rest))
+}
+
+#[tactic(auto, unfolding(crate::specs::Reading::raw_id_at))]
+fn raw_id_of(from: Input<'_>) -> Result<(Tid, Input<'_>), FieldFault>
+    ensures { Gives (λ x. (x.0, unread x.1)) result (raw_id_at (unread from.entry)) }
+{
+    let (number, rest) = u32_of(from)?;
+    Ok((Tid::Raw(number), rest))
+}
+
+#[tactic(auto, unfolding(crate::specs::Reading::tid_at))]
+pub fn tid_of(alloc: Global, from: Input<'_>) -> Result<(Tid, Input<'_>), FieldFault>
+    ensures { Gives (λ x. (x.0, unread x.1)) result (tid_at (unread from.entry)) }
+{
+    let (kind, rest) = u8_of(from)?;
+    match kind {
+        1 => Ok((Tid::Lead, rest)),
+        2 => task_of(alloc, rest),
+        3 => raw_id_of(rest),
+        _ => Err(FieldFault::BadKind(kind)),
+    }
+}
+
+#[tactic(auto, unfolding(crate::specs::Reading::tag_at))]
+pub fn tag_of(alloc: Global, from: Input<'_>) -> Result<(Tag, Input<'_>), FieldFault>
+    ensures { Gives (λ x. (x.0, unread x.1)) result (tag_at (unread from.entry)) }
+{
+    let (tid, rest) = tid_of(alloc, from)?;
+    let (epoch, rest) = u64_of(rest)?;
+    let (number, rest) = u64_of(rest)?;
+    let tag = Tag {
+        tid,
+        epoch: Epoch(epoch),
+        number,
+    };
+    Ok((tag, rest))
+}
+
+#[tactic(auto, unfolding(crate::specs::Reading::raw_part_at))]
+fn raw_part_of(from: Input<'_>) -> Result<(PartKey, Input<'_>), FieldFault>
+    ensures { Gives (λ x. (x.0, unread x.1)) result (raw_part_at (unread from.entry)) }
+{
+    let (number, rest) = u32_of(from)?;
+    Ok((PartKey::Raw(number), rest))
+}
+
+#[tactic(auto, unfolding(crate::specs::Reading::file_at))]
+fn file_of(alloc: Global, from: Input<'_>) -> Result<(PartKey, Input<'_>), FieldFault>
+    ensures { Gives (λ x. (x.0, unread x.1)) result (file_at (unread from.entry)) }
+{
+    let (connector, rest) = name_of(alloc, from)?;
+    let (feed, rest) = name_of(alloc, rest)?;
+    Ok((PartKey::File { connector, feed }, rest))
+}
+
+#[tactic(auto, unfolding(crate::specs::Reading::seq_at))]
+fn seq_of(alloc: Global, from: Input<'_>) -> Result<(PartKey, Input<'_>), FieldFault>
+    ensures { Gives (λ x. (x.0, unread x.1)) result (seq_at (unread from.entry)) }
+{
+    let (connector, rest) = name_of(alloc, from)?;
+    let (index, rest) = u32_of(rest)?;
+    Ok((PartKey::Seq { connector, index }, rest))
+}
+
+#[tactic(auto, unfolding(crate::specs::Reading::sink_at))]
+fn sink_of(alloc: Global, from: Input<'_>) -> Result<(PartKey, Input<'_>), FieldFault>
+    ensures { Gives (λ x. (x.0, unread x.1)) result (sink_at (unread from.entry)) }
+{
+    let (connector, rest) = name_of(alloc, from)?;
+    let (topic, rest) = name_of(alloc, rest)?;
+    Ok((PartKey::Sink { connector, topic }, rest))
+}
+
+#[tactic(auto, unfolding(crate::specs::Reading::part_at))]
+pub fn part_of(alloc: Global, from: Input<'_>) -> Result<(PartKey, Input<'_>), FieldFault>
+    ensures { Gives (λ x. (x.0, unread x.1)) result (part_at (unread from.entry)) }
+{
+    let (kind, rest) = u8_of(from)?;
+    match kind {
+        1 => raw_part_of(rest),
+        2 => file_of(alloc, rest),
+        3 => seq_of(alloc, rest),
+        4 => sink_of(alloc, rest),
+        _ => Err(FieldFault::BadKind(kind)),
+    }
+}
+
+#[tactic(auto, unfolding(crate::specs::Reading::span_at))]
+pub fn span_of(alloc: Global, from: Input<'_>) -> Result<(Span, Input<'_>), FieldFault>
+    ensures { Gives (λ x. (x.0, unread x.1)) result (span_at (unread from.entry)) }
+{
+    let (part, rest) = part_of(alloc, from)?;
+    let (from, rest) = u64_of(rest)?;
+    let (to, rest) = u64_of(rest)?;
+    Ok((Span { part, from, to }, rest))
+}
+
+#[tactic(auto, unfolding(crate::specs::Reading::some_text_at))]
+fn some_text_of(
+    alloc: Global,
+    from: Input<'_>,
+) -> Result<(Option<Listed<u8>>, Input<'_>), FieldFault>
+    ensures { Gives (λ x. (x.0, unread x.1)) result (some_text_at (unread from.entry)) }
+{
+    let (text, rest) = text_of(from)?;
+    let bytes = text.to_vec(alloc)?;
+    Ok((Some(Listed::new(bytes)), rest))
+}
+
+#[tactic(auto, unfolding(crate::specs::Reading::value_at))]
+fn value_of(alloc: Global, from: Input<'_>) -> Result<(Option<Listed<u8>>, Input<'_>), FieldFault>
+    ensures { Gives (λ x. (x.0, unread x.1)) result (value_at (unread from.entry)) }
+{
+    let (kind, rest) = u8_of(from)?;
+    match kind {
+        0 => Ok((None, rest)),
+        1 => some_text_of(alloc, rest),
+        _ => Err(FieldFault::BadKind(kind)),
+    }
+}
+
+#[tactic(auto, unfolding(crate::specs::Reading::record_at))]
+fn record_of(alloc: Global, from: Input<'_>) -> Result<(Applied, Input<'_>), FieldFault>
+    ensures { Gives (λ x. (x.0, unread x.1)) result (record_at (unread from.entry)) }
+{
+    let (offset, rest) = u64_of(from)?;
+    let (stamp, rest) = u64_of(rest)?;
+    let (text, rest) = text_of(rest)?;
+    let key = Listed::new(text.to_vec(alloc)?);
+    let (value, rest) = value_of(alloc, rest)?;
+    let applied = Applied {
+        offset,
+        stamp,
+        key,
+        value,
+    };
+    Ok((applied, rest))
+}
+
+fn many_records_of(
+    alloc: Global,
+    count: u32,
+    from: Input<'_>,
+) -> Result<(Vec<Applied>, Input<'_>), FieldFault>
+    ensures { Gives (λ x. (x.0.items, unread x.1)) result (many_at record_at count (unread from.entry)) }
+{
+    let mut records = Vec::new(alloc);
+    let mut rest = from;
+    for _ in 0..count {
+        let (applied, next) = record_of(alloc, rest)?;
+        records.push(applied)?;
+        rest = next;
+    }
+    Ok((records, rest))
+}
+
+#[tactic(auto, unfolding(crate::specs::Reading::records_at))]
+pub fn records_of(alloc: Global, from: Input<'_>) -> Result<(Vec<Applied>, Input<'_>), FieldFault>
+    ensures { Gives (λ x. (x.0.items, unread x.1)) result (records_at (unread from.entry)) }
+{
+    let (count, rest) = u32_of(from)?;
+    if count == 0 {
+        return Err(FieldFault::BadKind(0));
+    }
+    many_records_of(alloc, count, rest)
+}

@@ -1,0 +1,25 @@
+//! Fields of the bodies of the logs: numbers, texts, ids, parts, spans and lists of records.
+//!
+//! Its public contract says that each value has one spelling, that what is read is spelled so and what is
+//! spelled so is read whatever follows, and that a refusal is the first fault from the left.
+//! It stands on the ids, parts and spans of `cw_types`.
+#![tactic(auto)]
+
+mod applied;
+mod fault;
+mod fields;
+mod input;
+mod numbers;
+mod reader;
+#[cfg(test)]
+mod tests;
+mod writer;
+mod writing;
+
+pub use applied::Applied;
+pub use fault::FieldFault;
+pub use reader::{
+    Reader, read_part, read_records, read_span, read_tag, read_tid, spelled_fields_are_read,
+};
+pub use writer::Writer;
+pub use writing::{write_part, write_records, write_span, write_tag, write_tid};
