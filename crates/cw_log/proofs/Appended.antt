@@ -1,14 +1,14 @@
 -- An append to a log at rest.
 use Rattle.std.proofs.Common.{◌≡◌, ◌≤◌, ◌<◌, inl, inr, ℕ, zero, suc, ◌+◌, List, [], ◌∷◌, ◌++◌, length, take, drop, get_or, refl, sym, ◌∙◌, ap, subst, arith, append_assoc, length-append, length-take, take-append-drop, Option, Some, None, option_map, is_some, Bool}
-use Rattle.std.proofs.lemmas.List.{take_at, take-take, get_or-map}
+use Rattle.std.proofs.lemmas.List.{take_at, take-take, get_or-map, length-map}
 use Rattle.cw_log.specs.declared.place.Place.{Place}
 use Rattle.cw_log.specs.Calls.{IsGated}
-use Rattle.cw_log.specs.Log.{field, IsBody, AreFrames, Begins, IsHead, StandsFor, BeforeOrAfter, places_from, bodies_at}
+use Rattle.cw_log.specs.Log.{field, IsBody, AreFrames, Begins, IsHead, StandsFor, BeforeOrAfter, places_from, bodies_at, length_of}
 use Rattle.std.specs.Prelude.{Vec, vec_len, vec_capacity}
 use Rattle.std.specs.declared.alloc.Global.{Global}
 use Rattle.cw_log.specs.Calls.{Reads}
 use Rattle.cw_log.specs.State.{IsKept, IsRest, IsLog, HasRoom}
-use Rattle.cw_log.proofs.Frames.{length-field, frames_push, places_push}
+use Rattle.cw_log.proofs.Frames.{length-field, frames_push, places_push, frames_length}
 use Rattle.cw_log.proofs.Opened.{bodies_are, front_is, head_is, gate_within, kept_front, kept_stands, bodies_front}
 use Rattle.cw_log.proofs.Gates.{told_before}
 
@@ -161,3 +161,10 @@ module _ {D : Type 0} (holds : D → Option (List ℕ)) (may_leave : D → List 
   pub room_read : (old new : D) (gate ready : ℕ) (places places' : Vec Place Global) (tail tail' : Vec ℕ Global) → HasRoom reserved old gate ready places tail → reserved old ≤ reserved new
       → vec_capacity tail ≤ vec_capacity tail' → vec_capacity places ≤ vec_capacity places' → vec_len places' ≡ vec_len places → HasRoom reserved new gate ready places' tail'
   room_read old new gate ready places places' tail tail' room more tails spaces same = record { frame = omega (arith, room.frame, tails); place = omega (arith, room.place, spaces, same); bytes = omega (arith, room.bytes, more) }
+
+-- the numbers of a log are those of its list
+pub told_count : (gate : ℕ) (places : List Place) (file : List ℕ) (bodies : List (List ℕ)) → bodies_at places file ≡ bodies → length places ≡ length bodies
+told_count gate places file bodies is = sym (length-map places (λ (p : Place). take p.length (drop (p.at + 5) file))) ∙ ap length is
+
+pub told_length : (gate : ℕ) (places : List Place) (file : List ℕ) (bodies : List (List ℕ)) → Begins gate places file → bodies_at places file ≡ bodies → gate + 1 ≡ length_of bodies
+told_length gate places file bodies b is = omega (arith, b.place, frames_length b.bodies b.front b.frames, ap length_of (sym (bodies_are gate places file b) ∙ is))

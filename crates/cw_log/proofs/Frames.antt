@@ -4,7 +4,7 @@ use Rattle.std.proofs.lemmas.List.{drop_at, append-nil}
 use Rattle.std.specs.Int.{w32, to_be_bytes}
 use Rattle.cw_log.specs.declared.place.Place.{Place}
 use Rattle.cw_log.specs.declared.place.Frame.TheVariants.{Open}
-use Rattle.cw_log.specs.Log.{field, IsBody, AreFrames, Begins, BreaksAt, IsFrame, IsBroken, places_from}
+use Rattle.cw_log.specs.Log.{field, IsBody, AreFrames, Begins, BreaksAt, IsFrame, IsBroken, length_of, places_from}
 
 pub length-field : (body : List ℕ) → length (field body) ≡ length body + 4
 unfolding field
@@ -66,3 +66,7 @@ begins_next at n places file b is =
 -- a broken frame behind whole ones
 pub breaks : (at : ℕ) (places : List Place) (file : List ℕ) → Begins at places file → IsBroken (drop at file) → BreaksAt at file
 breaks at places file b is = record { bodies = b.bodies; head = b.head; front = b.front; rest = b.rest; split = b.split; size = b.size; frames = b.frames; place = b.place; broken = subst IsBroken (rest_is at places file b) is }
+
+pub frames_length : (bodies : List (List ℕ)) (front : List ℕ) → AreFrames bodies front → length front + 17 ≡ length_of bodies
+frames_length [] front is = omega (arith, ap length is)
+frames_length (b ∷ bodies) front is = omega (arith, ap length is.3, length-append (field b) is.1, length-field b, frames_length bodies is.1 is.4)

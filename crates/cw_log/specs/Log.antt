@@ -129,6 +129,11 @@ pub record IsDamaged (kind : ℕ) (file : List ℕ) (at : ℕ) (harm : Harm) : T
   pub «open» : 0 < byte_at file 0
   pub found : HasHarm kind file at harm
 
+-- how many bytes a log of these bodies has, up to and with its closed gate
+abbrev pub length_of : List (List ℕ) → ℕ
+length_of [] = 17
+length_of (body ∷ bodies) = (length body + 5) + length_of bodies
+
 -- where the frames of these bodies begin, from this place on, and how long the bodies are
 abbrev pub places_from : ℕ → List (List ℕ) → List Place
 places_from at [] = []

@@ -3,7 +3,7 @@ ghost use Rattle.std.specs.Prelude.{◌≡◌, ◌⊎◌, ◌≤◌, ◌<◌, �
 ghost use Rattle.cw_disk.specs.Disk.{Only, Adds};
 ghost use Rattle.cw_types.specs.Faults.{Rose};
 ghost use Rattle.cw_log.specs.Calls.{Reads};
-ghost use Rattle.cw_log.specs.Log.{StandsFor, StandAlike, BeforeOrAfter, IsDamaged, OnCause, kind_of};
+ghost use Rattle.cw_log.specs.Log.{StandsFor, StandAlike, BeforeOrAfter, IsDamaged, OnCause, kind_of, length_of};
 ghost use Rattle.cw_log.specs.State.{LogState, OnAppendFault, OnReadFault, OpensTo, IsSameLog, HasSameList, IsAppendable};
 
 use crate::calls::{prepare, read_part};
@@ -166,14 +166,16 @@ impl<D: Disk> TopicLog<D> {
 
     /// How many bodies there are.
     pub fn count(&self) -> u64
-        ensures { result ≡ self.now.count }
+        ensures count { result ≡ self.now.count }
+        ensures list { (bodies : List (List ℕ)) → self.now.bodies ≡ Some bodies → result ≡ length bodies }
     {
         self.places.len() as u64
     }
 
     /// How many bytes there are, up to and with the closed gate.
     pub fn length(&self) -> u64
-        ensures { result ≡ self.now.length }
+        ensures length { result ≡ self.now.length }
+        ensures list { (bodies : List (List ℕ)) → self.now.bodies ≡ Some bodies → result ≡ length_of bodies }
     {
         self.gate + 1
     }
