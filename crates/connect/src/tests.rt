@@ -155,7 +155,7 @@ fn limits_of_lines_are_exact(rt: HostRuntime) -> Result<(), Fail> {
     let mut lines = vec![in alloc; b'\n'; MOST_LINES as usize]?;
     let fits = driven(&rt, lines.clone()?, 65_536, none(alloc), none(alloc))?;
     assert_eq!(rt; fits.status, Status::Done);
-    lines.push(b'#')?;
+    lines.push(b'\n')?;
     let over = driven(&rt, lines, 65_536, none(alloc), none(alloc))?;
     assert_eq!(rt; over.status, Status::TooLong(1_000_001));
     Ok(())
