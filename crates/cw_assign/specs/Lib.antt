@@ -1,0 +1,4 @@
+pub mod Items
+pub mod Quota
+pub mod Plan
+pub mod Valid

@@ -1,0 +1,4 @@
+pub mod Phases
+pub mod Members
+pub mod Group
+pub mod Places

@@ -1,0 +1,17 @@
+//! A group of workers: its members, the rounds in which they agree on a plan, and what each may run
+//! (Kafka's group membership, with the rounds of KIP-415).
+//!
+//! Its public contract says of each call which refusal comes first, or what the group is behind it, and
+//! that no item is ever in the claims of two members.
+//! It stands on the items of `cw_types` and the plans of `cw_assign`.
+#![tactic(auto)]
+
+mod answers;
+mod group;
+mod member;
+#[cfg(test)]
+mod tests;
+
+pub use answers::{GroupFault, Phase, Synced};
+pub use group::Group;
+pub use member::Member;
