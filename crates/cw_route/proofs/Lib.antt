@@ -1,0 +1,9 @@
+pub mod Plain
+pub mod Spells
+pub mod Levels
+pub mod Found
+pub mod Sound
+pub mod Only
+pub mod Taken
+pub mod PageCalls
+pub mod Kept

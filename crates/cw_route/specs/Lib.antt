@@ -1,0 +1,5 @@
+pub mod Table
+pub mod Operations
+pub mod Parts
+pub mod Calls
+pub mod Spelled
