@@ -1,0 +1,6 @@
+use Rattle.std.proofs.Common.{◌≡◌, drop}
+use Rattle.cw_plugin.specs.Classes.{task_class_among}
+use Rattle.cw_plugin.proofs.class.task_class_among.Given as goal
+
+abbrev pub invariant-loop-class : goal.invariant-loop-class
+invariant-loop-class l = task_class_among (drop l.class-index l.classes) l.text ≡ task_class_among l.classes l.text

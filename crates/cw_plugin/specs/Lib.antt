@@ -1,0 +1,5 @@
+pub mod Checks
+pub mod Classes
+pub mod Lists
+pub mod Numbers
+pub mod Parts

@@ -1,0 +1,258 @@
+//! Whether a connector's config may be taken.
+ghost use Rattle.std.specs.Prelude.{◌≡◌, IfOk, option_map, not};
+ghost use Rattle.std.specs.List.{list_any};
+ghost use Rattle.cw_json.specs.Pairs.{value_in};
+ghost use Rattle.cw_plugin.specs.Classes.{row_of, key_of};
+ghost use Rattle.cw_plugin.specs.Checks.{Gives, checked, fault_of_class, is_name, is_among, first_failing, is_lacking, missing_key, is_bad_number, is_value_bad, bad_key, bad_number, feed_lacking_in, value_feed_lacking, feed_lacking, is_bad_name};
+
+use crate::class::{Class, Field, class_of, row_of};
+use crate::fault::PluginFault;
+use crate::lists::elements;
+use crate::numbers::{batch_size, count, sequences, tasks_max};
+use cw_json::{Props, Text};
+use cw_types::{Name, NameFault};
+use std::alloc::{AllocError, Global};
+
+// Whether a required value is lacking.
+fn is_lacking(props: &Props, field: Field) -> bool
+    ensures { result ≡ is_lacking field (value_in props.now (key_of field)) }
+{
+    match props.get(field.key()) {
+        Some(text) => field.is_list() && text.as_str().is_empty(),
+        None => true,
+    }
+}
+
+// The first required key that is lacking.
+fn missing_key(props: &Props, fields: &[Field]) -> Option<&'static str>
+    ensures { option_map (λ key. key.now) result ≡ missing_key props.now fields.now }
+{
+    for field in fields {
+        if is_lacking(props, *field) {
+            return Some(field.key());
+        }
+    }
+    None
+}
+
+fn is_bad_number(props: &Props, field: Field) -> bool
+    ensures { result ≡ is_value_bad (is_bad_number field) (value_in props.now (key_of field)) }
+{
+    let Some(text) = props.get(field.key()) else {
+        return false;
+    };
+    match field {
+        Field::Sequences => sequences(text).is_none(),
+        Field::Count => count(text).is_none(),
+        _ => false,
+    }
+}
+
+// The first required key whose value is no number in its range, where one is due.
+fn bad_required_number(props: &Props, fields: &[Field]) -> Option<&'static str>
+    ensures { option_map (λ key. key.now) result ≡ bad_key is_bad_number props.now fields.now }
+{
+    for field in fields {
+        if is_bad_number(props, *field) {
+            return Some(field.key());
+        }
+    }
+    None
+}
+
+// The first key whose value is no number in its range, where one is due.
+fn bad_number(props: &Props, class: Class) -> Option<&'static str>
+    ensures { option_map (λ key. key.now) result ≡ bad_number props.now (row_of class) }
+{
+    let row = row_of(class);
+    if tasks_max(props).is_none() {
+        return Some("tasks.max");
+    }
+    if !row.is_source {
+        return bad_required_number(props, row.fields);
+    }
+    if batch_size(props).is_none() {
+        return Some("batch.size");
+    }
+    bad_required_number(props, row.fields)
+}
+
+fn is_loaded(feeds: &[Name], text: &Text) -> bool
+    ensures { result ≡ is_among feeds.now text.now }
+{
+    feeds
+        .iter()
+        .any(|feed| feed.as_bytes() == text.as_str().as_bytes())
+}
+
+// The first of some feeds that isn't loaded.
+fn first_unloaded(feeds: &[Name], texts: &[Text]) -> Result<Option<Text>, AllocError>
+    ensures { IfOk result (λ feed. feed ≡ first_failing (is_among feeds.now) texts.now) }
+{
+    for text in texts {
+        if !is_loaded(feeds, text) {
+            return Ok(Some(text.copy()?));
+        }
+    }
+    Ok(None)
+}
+
+// The first feed in a value that isn't loaded.
+fn feed_lacking_in(
+    alloc: Global,
+    feeds: &[Name],
+    field: Field,
+    text: &Text,
+) -> Result<Option<Text>, AllocError>
+    ensures { IfOk result (λ feed. feed ≡ feed_lacking_in (is_among feeds.now) field text.now) }
+{
+    match field {
+        Field::Feed => {
+            if is_loaded(feeds, text) {
+                Ok(None)
+            } else {
+                Ok(Some(text.copy()?))
+            }
+        }
+        Field::Feeds => {
+            let found = elements(alloc, text.as_str())?;
+            first_unloaded(feeds, &found)
+        }
+        _ => Ok(None),
+    }
+}
+
+fn value_feed_lacking(
+    alloc: Global,
+    feeds: &[Name],
+    props: &Props,
+    field: Field,
+) -> Result<Option<Text>, AllocError>
+    ensures { IfOk result (λ feed. feed ≡ value_feed_lacking (is_among feeds.now) field (value_in props.now (key_of field))) }
+{
+    match props.get(field.key()) {
+        Some(text) => feed_lacking_in(alloc, feeds, field, text),
+        None => Ok(None),
+    }
+}
+
+// The first feed that isn't loaded.
+fn feed_lacking(
+    alloc: Global,
+    feeds: &[Name],
+    props: &Props,
+    fields: &[Field],
+) -> Result<Option<Text>, AllocError>
+    ensures { IfOk result (λ feed. feed ≡ feed_lacking (is_among feeds.now) props.now fields.now) }
+{
+    for field in fields {
+        if let Some(feed) = value_feed_lacking(alloc, feeds, props, *field)? {
+            return Ok(Some(feed));
+        }
+    }
+    Ok(None)
+}
+
+// Whether a text is a name.
+fn is_name(alloc: Global, text: &Text) -> Result<bool, AllocError>
+    ensures { IfOk result (λ is. is ≡ is_name text.now) }
+{
+    match Name::read(alloc, text.as_str().as_bytes()) {
+        Ok(_) => Ok(true),
+        Err(NameFault::Memory) => Err(AllocError),
+        Err(_) => Ok(false),
+    }
+}
+
+// Whether some text is no name.
+fn any_is_no_name(alloc: Global, texts: &[Text]) -> Result<bool, AllocError>
+    ensures { IfOk result (λ is. is ≡ list_any (λ e. not (is_name e)) texts.now) }
+{
+    for text in texts {
+        if !is_name(alloc, text)? {
+            return Ok(true);
+        }
+    }
+    Ok(false)
+}
+
+fn is_bad_name_in(alloc: Global, field: Field, text: &Text) -> Result<bool, AllocError>
+    ensures { IfOk result (λ bad. bad ≡ is_bad_name field text.now) }
+{
+    match field {
+        Field::Topic | Field::Outlet => Ok(!is_name(alloc, text)?),
+        Field::Topics => {
+            let found = elements(alloc, text.as_str())?;
+            any_is_no_name(alloc, &found)
+        }
+        _ => Ok(false),
+    }
+}
+
+fn is_bad_name(alloc: Global, props: &Props, field: Field) -> Result<bool, AllocError>
+    ensures { IfOk result (λ bad. bad ≡ is_value_bad (is_bad_name field) (value_in props.now (key_of field))) }
+{
+    match props.get(field.key()) {
+        Some(text) => is_bad_name_in(alloc, field, text),
+        None => Ok(false),
+    }
+}
+
+// The first key whose value is no name, or has an element that is none, where names are due.
+fn bad_name(
+    alloc: Global,
+    props: &Props,
+    fields: &[Field],
+) -> Result<Option<&'static str>, AllocError>
+    ensures { IfOk result (λ key. option_map (λ it. it.now) key ≡ bad_key is_bad_name props.now fields.now) }
+{
+    for field in fields {
+        if is_bad_name(alloc, props, *field)? {
+            return Ok(Some(field.key()));
+        }
+    }
+    Ok(None)
+}
+
+// The first fault of properties of a class.
+fn fault_of_class(
+    alloc: Global,
+    props: &Props,
+    feeds: &[Name],
+    class: Class,
+) -> Result<Option<PluginFault>, AllocError>
+    ensures { IfOk result (λ fault. fault ≡ fault_of_class (is_among feeds.now) props.now (row_of class)) }
+{
+    let fields = row_of(class).fields;
+    if let Some(key) = missing_key(props, fields) {
+        return Ok(Some(PluginFault::Missing(Text::of(alloc, key)?)));
+    }
+    if let Some(key) = bad_number(props, class) {
+        return Ok(Some(PluginFault::BadInt(Text::of(alloc, key)?)));
+    }
+    if let Some(feed) = feed_lacking(alloc, feeds, props, fields)? {
+        return Ok(Some(PluginFault::NoFeed(feed)));
+    }
+    match bad_name(alloc, props, fields)? {
+        Some(key) => Ok(Some(PluginFault::BadName(Text::of(alloc, key)?))),
+        None => Ok(None),
+    }
+}
+
+/// The class of a connector's config, or the first fault that it has, where these feeds are loaded.
+/// The faults come in the order of `PluginFault`; in each, required keys come in the order of the
+/// class's row, and numbers in the order `tasks.max`, `batch.size`, `partitions`, `count`.
+pub fn check_config(alloc: Global, props: &Props, feeds: &[Name]) -> Result<Class, PluginFault>
+    ensures { Gives result (checked (is_among feeds.now) props.now) }
+{
+    let Some(text) = props.get("connector.class") else {
+        return Err(PluginFault::NoClass);
+    };
+    let Some(class) = class_of(text.as_str()) else {
+        return Err(PluginFault::UnknownClass);
+    };
+    match fault_of_class(alloc, props, feeds, class)? {
+        Some(fault) => Err(fault),
+        None => Ok(class),
+    }
+}

@@ -1,0 +1,44 @@
+//! Why a config is refused.
+ghost use Rattle.std.specs.Prelude.{◌≡◌};
+
+use cw_json::Text;
+use std::alloc::{AllocError, AllocFailed};
+
+/// Why a connector's config is refused, the first that holds in this order.
+#[derive(Debug, Drop)]
+pub enum PluginFault {
+    /// There is no `connector.class`.
+    NoClass,
+    /// There is no class of that name.
+    UnknownClass,
+    /// The first required key that is lacking, or whose list is empty.
+    Missing(Text),
+    /// The first key whose value is no number, or none in its range.
+    BadInt(Text),
+    /// The first feed, as it is written, that isn't loaded.
+    NoFeed(Text),
+    /// The first key whose value is no name, or has an element that is none.
+    BadName(Text),
+    /// There was no memory.
+    Memory,
+}
+
+impl From<AllocError> for PluginFault {
+    ghost use Rattle.cw_plugin.specs.declared.fault.PluginFault.TheVariants.{Memory};
+
+    ghost from_gives = { λ _ fault. fault ≡ Memory };
+
+    fn from(_: AllocError) -> PluginFault {
+        PluginFault::Memory
+    }
+}
+
+impl<T: Drop> From<AllocFailed<T>> for PluginFault {
+    ghost use Rattle.cw_plugin.specs.declared.fault.PluginFault.TheVariants.{Memory};
+
+    ghost from_gives = { λ _ fault. fault ≡ Memory };
+
+    fn from(_: AllocFailed<T>) -> PluginFault {
+        PluginFault::Memory
+    }
+}

@@ -1,0 +1,21 @@
+//! Connector classes: which config a connector may have, and what a task reads or writes.
+//!
+//! Its public contract says of each config which class it has or which refusal comes first, and
+//! which parts a task's properties name.
+//! It stands on the names and numbers of `cw_types` and the properties of `cw_json`.
+#![tactic(auto)]
+
+mod check;
+mod class;
+mod fault;
+mod lists;
+mod numbers;
+mod task;
+
+pub use check::check_config;
+pub use class::Class;
+pub use fault::PluginFault;
+pub use task::{TaskSpec, task_of};
+
+#[cfg(test)]
+mod tests;
