@@ -3,3 +3,10 @@ pub mod Dealing
 pub mod PlanLemmas
 pub mod Counts
 pub mod Validity
+pub mod Settling
+pub mod Ranks
+pub mod Overlap
+pub mod OnePlan
+pub mod TwoPlans
+pub mod Settles
+pub mod Rest

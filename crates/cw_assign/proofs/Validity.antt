@@ -91,6 +91,18 @@ of_both : (kind : Kind) (cs ts : List Item) → AreOf Connectors cs → AreOf Ta
 of_both Connectors cs ts c t = filter-append (is_of Connectors) cs ts ∙ ap (λ ys. of_kind Connectors cs ++ ys) (no_connectors ts t) ∙ append-nil (of_kind Connectors cs) ∙ all_of Connectors cs c
 of_both Tasks cs ts c t = filter-append (is_of Tasks) cs ts ∙ ap (λ xs. xs ++ of_kind Tasks ts) (no_tasks cs c) ∙ all_of Tasks ts t
 
+pub has-filter : (f : Item → Bool) (xs : List Item) (x : Item) → has (filter f xs) x ≡ (has xs x && f x)
+has-filter f [] x = refl
+has-filter f (y ∷ ys) x = pick (f y) (same_item x y) refl refl (has-filter f ys x) where
+  pick : (b s : Bool) → f y ≡ b → same_item x y ≡ s → has (filter f ys) x ≡ (has ys x && f x) → has (cond b (y ∷ filter f ys) (filter f ys)) x ≡ ((s || has ys x) && f x)
+  pick true true fy same rest = ap (λ s. s || has (filter f ys) x) same ∙ sym (ap f ((same_item-Decides x y).0 same) ∙ fy)
+  pick true false fy same rest = ap (λ s. s || has (filter f ys) x) same ∙ rest
+  pick false true fy same rest = rest ∙ ap (λ b. has ys x && b) (ap f ((same_item-Decides x y).0 same) ∙ fy) ∙ no (has ys x) ∙ sym (ap f ((same_item-Decides x y).0 same) ∙ fy) where
+    no : (b : Bool) → (b && false) ≡ false
+    no true = refl
+    no false = refl
+  pick false false fy same rest = rest
+
 module _ (members : List Holder) (configured lost : List Item) (running : Bool) where
   abbrev keeps : Kind → Holder → List Item
   keeps kind m = kept_of kind members (length (of_kind kind configured)) (has configured) running m
@@ -153,19 +165,7 @@ module _ (members : List Holder) (configured lost : List Item) (running : Bool) 
         ∙ ap (λ n. count_by q (filter (is_free Connectors (has (held_by members)) (has lost) running) configured) + n) (dealt_is q Tasks)
         ∙ count-classes q free configured
 
-    has-filter : (f : Item → Bool) (xs : List Item) (x : Item) → has (filter f xs) x ≡ (has xs x && f x)
-    has-filter f [] x = refl
-    has-filter f (y ∷ ys) x = pick (f y) (same_item x y) refl refl (has-filter f ys x) where
-      pick : (b s : Bool) → f y ≡ b → same_item x y ≡ s → has (filter f ys) x ≡ (has ys x && f x) → has (cond b (y ∷ filter f ys) (filter f ys)) x ≡ ((s || has ys x) && f x)
-      pick true true fy same rest = ap (λ s. s || has (filter f ys) x) same ∙ sym (ap f ((same_item-Decides x y).0 same) ∙ fy)
-      pick true false fy same rest = ap (λ s. s || has (filter f ys) x) same ∙ rest
-      pick false true fy same rest = rest ∙ ap (λ b. has ys x && b) (ap f ((same_item-Decides x y).0 same) ∙ fy) ∙ no (has ys x) ∙ sym (ap f ((same_item-Decides x y).0 same) ∙ fy) where
-        no : (b : Bool) → (b && false) ≡ false
-        no true = refl
-        no false = refl
-      pick false false fy same rest = rest
-
-    given_is : (x : Item) → has (fresh_in (plan_of members configured lost running).shares) x ≡ (has configured x && free x)
+    pub given_is : (x : Item) → has (fresh_in (plan_of members configured lost running).shares) x ≡ (has configured x && free x)
     given_is x = has-count (fresh_in (plan_of members configured lost running).shares) (filter free configured) given_count x ∙ has-filter free configured x
 
     not_held : (a h r : Bool) → (a && (not h && r)) ≡ true → h ≡ false

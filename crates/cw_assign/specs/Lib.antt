@@ -2,3 +2,4 @@ pub mod Items
 pub mod Quota
 pub mod Plan
 pub mod Valid
+pub mod Settled

@@ -1,11 +1,13 @@
 //! The plan.
-ghost use Rattle.std.specs.Prelude.{◌≡◌, ◌<◌, ◌++◌, IfOk, length, not};
+ghost use Rattle.std.specs.Prelude.{◌≡◌, ◌<◌, ◌++◌, List, false, IfOk, length, not};
 ghost use Rattle.std.specs.List.{filter};
 ghost use Rattle.std.specs.List.Sorted.{IsStrictlySortedBy};
 ghost use Rattle.cw_types.specs.declared.ids.Item.{Item};
 ghost use Rattle.cw_types.specs.Order.{item_cmp};
 ghost use Rattle.cw_assign.specs.Items.{has};
+ghost use Rattle.cw_assign.specs.declared.share.Holder.{Holder};
 ghost use Rattle.cw_assign.specs.Valid.{IsValid};
+ghost use Rattle.cw_assign.specs.Settled.{IsReady, HoldWhatWasGiven, IsSettled};
 ghost use Rattle.cw_assign.specs.Plan.{plan_of, shares_of, share_of, held_by};
 
 use crate::class::{Known, deal};
@@ -50,6 +52,15 @@ pub fn plan(
         shares: Listed::new(shares),
     })
 }
+
+/// The law of two plans one after the other (KIP-415): where each member holds what the first gave it, with
+/// the same members and items and no delay, the second settles the group. It takes nothing away, gives
+/// every configured item to one member, and the loads in a class differ by at most one.
+pub fn plans_settle()
+    ensures { (members second : List Holder) (configured lost later : List Item) → 0 < length members →
+        IsReady members configured → HoldWhatWasGiven (plan_of members configured lost false).shares second →
+        IsSettled configured (plan_of second configured later false) }
+{}
 
 // What the members hold.
 fn held_by(alloc: Global, members: &[Holder]) -> Result<ItemSet, AllocError>
