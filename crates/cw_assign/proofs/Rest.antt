@@ -299,11 +299,11 @@ module _ (members second : List Holder) (configured lost later : List Item) (som
           at_most_once configured (held_by members) (free members configured lost false) ready.rising ready.apart (unheld members lost) x (count_by p (flat_map (λ s. s.kept) (shares_of members C T))) kept,
         )
 
-  abbrev C2 : List Hand
-  C2 = class_hands Connectors second configured later false
+  abbrev second_connectors : List Hand
+  second_connectors = class_hands Connectors second configured later false
 
-  abbrev T2 : List Hand
-  T2 = class_hands Tasks second configured later false
+  abbrev second_tasks : List Hand
+  second_tasks = class_hands Tasks second configured later false
 
   some2 : 0 < length second
   some2 = some_second members second configured lost later some ready held
@@ -311,32 +311,32 @@ module _ (members second : List Holder) (configured lost later : List Item) (som
   known : AllByRecursion (λ m. Each (has configured) m.held) second
   known = all_known configured C T second got
 
-  given_sum : (p : Item → Bool) → count_by p (flat_map given_by (shares_of second C2 T2)) ≡ count_by p (held_by second) + count_by p (filter (free second configured later false) configured)
-  given_sum p = sums configured p second C2 T2 (many second later Connectors) (many second later Tasks)
-      ∙ ap (λ (n : ℕ). n + count_by p (fresh_in (shares_of second C2 T2))) (all_kept configured second p second C2 T2 (hands_kept second configured later false Connectors) (hands_kept second configured later false Tasks)
+  given_sum : (p : Item → Bool) → count_by p (flat_map given_by (shares_of second second_connectors second_tasks)) ≡ count_by p (held_by second) + count_by p (filter (free second configured later false) configured)
+  given_sum p = sums configured p second second_connectors second_tasks (many second later Connectors) (many second later Tasks)
+      ∙ ap (λ (n : ℕ). n + count_by p (fresh_in (shares_of second second_connectors second_tasks))) (all_kept configured second p second second_connectors second_tasks (hands_kept second configured later false Connectors) (hands_kept second configured later false Tasks)
       (keeps members second configured lost later some ready held Connectors) (keeps members second configured lost later some ready held Tasks) known)
       ∙ ap (λ (n : ℕ). count_by p (held_by second) + n) (given_count second configured later false some2 p)
 
   bounds : (kind : Kind) → AllByRecursion (λ s. (all members second configured lost later some ready held kind / length (stood members second configured lost later some ready held kind) ≤ share_load kind s)
-      × (share_load kind s ≤ all members second configured lost later some ready held kind / length (stood members second configured lost later some ready held kind) + 1)) (shares_of second C2 T2)
-  bounds Connectors = share_bounds configured Connectors (all members second configured lost later some ready held Connectors / length (stood members second configured lost later some ready held Connectors)) second C2 T2
+      × (share_load kind s ≤ all members second configured lost later some ready held kind / length (stood members second configured lost later some ready held kind) + 1)) (shares_of second second_connectors second_tasks)
+  bounds Connectors = share_bounds configured Connectors (all members second configured lost later some ready held Connectors / length (stood members second configured lost later some ready held Connectors)) second second_connectors second_tasks
       (own_hands configured Connectors second later) (own_hands configured Tasks second later) (final_least members second configured lost later some ready held held_apart Connectors) (final_most members second configured lost later some ready held held_apart Connectors)
-  bounds Tasks = share_bounds configured Tasks (all members second configured lost later some ready held Tasks / length (stood members second configured lost later some ready held Tasks)) second C2 T2
+  bounds Tasks = share_bounds configured Tasks (all members second configured lost later some ready held Tasks / length (stood members second configured lost later some ready held Tasks)) second second_connectors second_tasks
       (own_hands configured Connectors second later) (own_hands configured Tasks second later) (final_least members second configured lost later some ready held held_apart Tasks) (final_most members second configured lost later some ready held held_apart Tasks)
 
   -- the second plan is settled
   pub settles : IsSettled configured (plan_of second configured later false)
   settles = record {
-    nothing_revoked = none_revoked configured second second C2 T2 (hands_kept second configured later false Connectors) (hands_kept second configured later false Tasks)
+    nothing_revoked = none_revoked configured second second second_connectors second_tasks (hands_kept second configured later false Connectors) (hands_kept second configured later false Tasks)
         (keeps members second configured lost later some ready held Connectors) (keeps members second configured lost later some ready held Tasks) known;
-    all_given = λ x. has-count (flat_map given_by (shares_of second C2 T2)) (held_by second ++ filter (free second configured later false) configured)
+    all_given = λ x. has-count (flat_map given_by (shares_of second second_connectors second_tasks)) (held_by second ++ filter (free second configured later false) configured)
         (λ p. given_sum p ∙ sym (count-append p (held_by second) (filter (free second configured later false) configured))) x
         ∙ list_any-append (λ y. same_item x y) (held_by second) (filter (free second configured later false) configured)
         ∙ ap (λ b. has (held_by second) x || b) (has-filter (free second configured later false) configured x)
         ∙ join (has (held_by second) x) (has configured x) (known_held configured second known x);
-    once = distinct_from_once (flat_map given_by (shares_of second C2 T2)) (λ x. subst (λ (n : ℕ). n ≤ 1) (sym (given_sum (λ y. same_item x y)))
+    once = distinct_from_once (flat_map given_by (shares_of second second_connectors second_tasks)) (λ x. subst (λ (n : ℕ). n ≤ 1) (sym (given_sum (λ y. same_item x y)))
         (at_most_once configured (held_by second) (free second configured later false) ready.rising held_apart (unheld second later) x (count_by (λ y. same_item x y) (held_by second)) (omega arith)));
-    even = λ kind. evens kind (all members second configured lost later some ready held kind / length (stood members second configured lost later some ready held kind)) (shares_of second C2 T2) (shares_of second C2 T2) (bounds kind) (bounds kind);
+    even = λ kind. evens kind (all members second configured lost later some ready held kind / length (stood members second configured lost later some ready held kind)) (shares_of second second_connectors second_tasks) (shares_of second second_connectors second_tasks) (bounds kind) (bounds kind);
   } where
     join : (a b : Bool) → (a ≡ true → b ≡ true) → (a || (b && (not a && true))) ≡ b
     join true b e = sym (e refl)
