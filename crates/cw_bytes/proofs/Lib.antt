@@ -5,3 +5,5 @@ pub mod Producers
 pub mod Parts
 pub mod Records
 pub mod Many
+pub mod Marks
+pub mod Bodies

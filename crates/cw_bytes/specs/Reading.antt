@@ -1,5 +1,5 @@
 -- Reading fields from left to right: the value and what is left, or the first fault with the place where its field begins.
-use Rattle.std.specs.Prelude.{◌≡◌, ℕ, zero, suc, ◌+◌, List, [], ◌∷◌, length, take, Option, Some, None, Result, Ok, Err, nat_lt, ◌==◌, if◌then◌else◌}
+use Rattle.std.specs.Prelude.{◌≡◌, ℕ, zero, suc, ◌+◌, List, [], ◌∷◌, length, take, Option, Some, None, Result, Ok, Err, Bool, true, false, nat_lt, ◌==◌, if◌then◌else◌}
 use Rattle.std.specs.Bool.{⊤}
 use Rattle.std.specs.Int.{Width, w32, w64, byte_len, from_be_bytes}
 use Rattle.cw_types.specs.Name.{name_fault}
@@ -11,6 +11,7 @@ use Rattle.cw_types.specs.declared.ids.PartKey.{PartKey}
 use Rattle.cw_types.specs.declared.ids.PartKey.TheVariants.{Raw, File, Seq, Sink}
 use Rattle.cw_types.specs.declared.ids.Span.{Span}
 use Rattle.cw_bytes.specs.declared.applied.Applied.{Applied}
+use Rattle.cw_bytes.specs.declared.mark.Mark.{Mark}
 use Rattle.cw_bytes.specs.declared.fault.FieldFault.{FieldFault}
 use Rattle.cw_bytes.specs.declared.fault.FieldFault.TheVariants.{Short, BadKind, BadName, Memory}
 use Rattle.cw_bytes.specs.Unread.{Unread, past}
@@ -89,6 +90,18 @@ tag_at from = do
   number ← number_at w64 epoch.1
   Ok (record { tid = tid.0; epoch = record { 0 = epoch.0 }; number = number.0 }, number.1)
 
+-- whether a transaction was committed
+unfoldable pub flag_at : Unread → Read Bool
+flag_at from = do
+  kind ← byte_at from
+  if kind.0 == 0 then Ok (false, kind.1) else if kind.0 == 1 then Ok (true, kind.1) else Err (BadKind kind.0)
+
+unfoldable pub mark_at : Unread → Read Mark
+mark_at from = do
+  tag ← tag_at from
+  flag ← flag_at tag.1
+  Ok (record { tag = tag.0; committed = flag.0 }, flag.1)
+
 unfoldable pub raw_part_at : Unread → Read PartKey
 raw_part_at from = do
   n ← number_at w32 from
@@ -155,3 +168,11 @@ unfoldable pub records_at : Unread → Read (List Applied)
 records_at from = do
   n ← number_at w32 from
   if n.0 == 0 then Err (BadKind 0) else many_at record_at n.0 n.1
+
+-- a body is a value and nothing behind it
+abbrev pub ended : {A : Type 0} → Read A → Option A
+ended (Ok read) = if length read.1.rest == 0 then Some read.0 else None
+ended (Err fault) = None
+
+abbrev pub body_at : {A : Type 0} → (Unread → Read A) → List ℕ → Option A
+body_at at bytes = ended (at (record { place = 0; rest = bytes }))

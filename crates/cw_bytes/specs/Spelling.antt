@@ -1,5 +1,5 @@
 -- The bytes of fields in the bodies of the logs. Numbers are big-endian, as in Kafka's protocol; kinds and order are this project's own.
-use Rattle.std.specs.Prelude.{ℕ, ◌<◌, ◌≤◌, ◌^◌, List, [], ◌∷◌, ◌++◌, length, Option, Some, None}
+use Rattle.std.specs.Prelude.{ℕ, ◌<◌, ◌≤◌, ◌^◌, List, [], ◌∷◌, ◌++◌, length, Option, Some, None, Bool, true, false}
 use Rattle.std.specs.Bool.{⊤}
 use Rattle.std.specs.List.{flat_map, AllByRecursion}
 use Rattle.std.specs.Int.{w32, w64, to_be_bytes}
@@ -11,6 +11,7 @@ use Rattle.cw_types.specs.declared.ids.PartKey.{PartKey}
 use Rattle.cw_types.specs.declared.ids.PartKey.TheVariants.{Raw, File, Seq, Sink}
 use Rattle.cw_types.specs.declared.ids.Span.{Span}
 use Rattle.cw_bytes.specs.declared.applied.Applied.{Applied}
+use Rattle.cw_bytes.specs.declared.mark.Mark.{Mark}
 
 -- four bytes and eight bytes of a number
 unfoldable pub word : ℕ → List ℕ
@@ -32,6 +33,15 @@ tid_bytes (RawId n) = 3 ∷ word n
 -- a transaction
 abbrev pub tag_bytes : Tag → List ℕ
 tag_bytes tag = tid_bytes tag.tid ++ (long tag.epoch.0 ++ long tag.number)
+
+-- how a transaction ended: 0 is aborted, 1 committed
+abbrev pub flag_bytes : Bool → List ℕ
+flag_bytes false = 0 ∷ []
+flag_bytes true = 1 ∷ []
+
+-- a mark
+abbrev pub mark_bytes : Mark → List ℕ
+mark_bytes mark = tag_bytes mark.tag ++ flag_bytes mark.committed
 
 -- a part: 1 is a script's, 2 a feed, 3 a sequence, 4 a topic of a sink
 abbrev pub part_bytes : PartKey → List ℕ
@@ -68,6 +78,9 @@ IsTid (RawId n) = n < 2 ^ 32
 
 abbrev pub IsTag : Tag → Type 0
 IsTag tag = IsTid tag.tid × (tag.epoch.0 < 2 ^ 64) × (tag.number < 2 ^ 64)
+
+abbrev pub IsMark : Mark → Type 0
+IsMark mark = IsTag mark.tag
 
 abbrev pub IsPart : PartKey → Type 0
 IsPart (Raw n) = n < 2 ^ 32

@@ -1,11 +1,12 @@
 //! Reading one field behind the other.
 ghost use Rattle.std.specs.Prelude.{◌≡◌};
 ghost use Rattle.cw_bytes.specs.Input.{unread};
-ghost use Rattle.cw_bytes.specs.Reading.{Gives, cut_at, text_at, name_at, task_at, raw_id_at, tid_at, tag_at, raw_part_at, file_at, seq_at, sink_at, part_at, span_at, some_text_at, value_at, record_at, many_at, records_at};
+ghost use Rattle.cw_bytes.specs.Reading.{Gives, cut_at, text_at, name_at, task_at, raw_id_at, tid_at, tag_at, flag_at, mark_at, raw_part_at, file_at, seq_at, sink_at, part_at, span_at, some_text_at, value_at, record_at, many_at, records_at};
 
 use crate::applied::Applied;
 use crate::fault::FieldFault;
 use crate::input::Input;
+use crate::mark::Mark;
 use crate::numbers::{past, u8_of, u32_of, u64_of};
 use cw_types::{Epoch, Listed, Name, NameFault, PartKey, Span, Tag, TaskId, Tid};
 use std::alloc::Global;
@@ -84,6 +85,27 @@ pub fn tag_of(alloc: Global, from: Input<'_>) -> Result<(Tag, Input<'_>), FieldF
         number,
     };
     Ok((tag, rest))
+}
+
+#[tactic(auto, unfolding(crate::specs::Reading::flag_at))]
+fn flag_of(from: Input<'_>) -> Result<(bool, Input<'_>), FieldFault>
+    ensures { Gives (λ x. (x.0, unread x.1)) result (flag_at (unread from.entry)) }
+{
+    let (kind, rest) = u8_of(from)?;
+    match kind {
+        0 => Ok((false, rest)),
+        1 => Ok((true, rest)),
+        _ => Err(FieldFault::BadKind(kind)),
+    }
+}
+
+#[tactic(auto, unfolding(crate::specs::Reading::mark_at))]
+pub fn mark_of(alloc: Global, from: Input<'_>) -> Result<(Mark, Input<'_>), FieldFault>
+    ensures { Gives (λ x. (x.0, unread x.1)) result (mark_at (unread from.entry)) }
+{
+    let (tag, rest) = tag_of(alloc, from)?;
+    let (committed, rest) = flag_of(rest)?;
+    Ok((Mark { tag, committed }, rest))
 }
 
 #[tactic(auto, unfolding(crate::specs::Reading::raw_part_at))]

@@ -1,4 +1,4 @@
-//! Fields of the bodies of the logs: numbers, texts, ids, parts, spans and lists of records.
+//! Fields of the bodies of the logs: numbers, texts, ids, parts, spans, marks and lists of records.
 //!
 //! Its public contract says that each value has one spelling, that what is read is spelled so and what is
 //! spelled so is read whatever follows, and that a refusal is the first fault from the left.
@@ -6,9 +6,11 @@
 #![tactic(auto)]
 
 mod applied;
+mod body;
 mod fault;
 mod fields;
 mod input;
+mod mark;
 mod numbers;
 mod reader;
 #[cfg(test)]
@@ -17,9 +19,12 @@ mod writer;
 mod writing;
 
 pub use applied::Applied;
+pub use body::{BodyFault, read_record_body, write_record_body};
 pub use fault::FieldFault;
+pub use mark::Mark;
 pub use reader::{
-    Reader, read_part, read_records, read_span, read_tag, read_tid, spelled_fields_are_read,
+    Reader, read_mark, read_part, read_records, read_span, read_tag, read_tid,
+    spelled_fields_are_read,
 };
 pub use writer::Writer;
-pub use writing::{write_part, write_records, write_span, write_tag, write_tid};
+pub use writing::{write_mark, write_part, write_records, write_span, write_tag, write_tid};

@@ -5,15 +5,17 @@ ghost use Rattle.cw_types.specs.declared.ids.Tag.{Tag};
 ghost use Rattle.cw_types.specs.declared.ids.PartKey.{PartKey};
 ghost use Rattle.cw_types.specs.declared.ids.Span.{Span};
 ghost use Rattle.cw_bytes.specs.declared.applied.Applied.{Applied};
+ghost use Rattle.cw_bytes.specs.declared.mark.Mark.{Mark};
 ghost use Rattle.std.specs.Int.{w32, w64};
 ghost use Rattle.cw_bytes.specs.Unread.{Unread, Takes, AreBytes};
-ghost use Rattle.cw_bytes.specs.Spelling.{word, long, text, tid_bytes, tag_bytes, part_bytes, span_bytes, records_bytes, IsText, IsTid, IsTag, IsPart, IsSpan, AreRecords};
-ghost use Rattle.cw_bytes.specs.Reading.{Gives, byte_at, number_at, text_at, tid_at, tag_at, part_at, span_at, records_at};
+ghost use Rattle.cw_bytes.specs.Spelling.{word, long, text, tid_bytes, tag_bytes, mark_bytes, part_bytes, span_bytes, records_bytes, IsText, IsTid, IsTag, IsMark, IsPart, IsSpan, AreRecords};
+ghost use Rattle.cw_bytes.specs.Reading.{Gives, byte_at, number_at, text_at, tid_at, tag_at, mark_at, part_at, span_at, records_at};
 
 use crate::applied::Applied;
 use crate::fault::FieldFault;
-use crate::fields::{part_of, records_of, span_of, tag_of, text_of, tid_of};
+use crate::fields::{mark_of, part_of, records_of, span_of, tag_of, text_of, tid_of};
 use crate::input::Input;
+use crate::mark::Mark;
 use crate::numbers::{u8_of, u32_of, u64_of};
 use cw_types::{PartKey, Span, Tag, Tid};
 use std::alloc::Global;
@@ -131,6 +133,17 @@ pub fn read_tag(alloc: Global, from: &mut Reader<'_>) -> Result<Tag, FieldFault>
     Ok(tag)
 }
 
+/// Reads a mark.
+pub fn read_mark(alloc: Global, from: &mut Reader<'_>) -> Result<Mark, FieldFault>
+    ensures value { Gives (λ mark. (mark, from.new)) result (mark_at from.old) }
+    ensures as_before { OnErr result (from.new ≡ from.old) }
+    ensures spelled { IfOk result (λ mark. Takes (mark_bytes mark) from.old from.new × IsMark mark) }
+{
+    let (mark, rest) = mark_of(alloc, from.input)?;
+    from.input = rest;
+    Ok(mark)
+}
+
 /// Reads a part.
 pub fn read_part(alloc: Global, from: &mut Reader<'_>) -> Result<PartKey, FieldFault>
     ensures value { Gives (λ part. (part, from.new)) result (part_at from.old) }
@@ -172,6 +185,7 @@ pub fn spelled_fields_are_read()
     ensures text { (t : List ℕ) (from next : Unread) → IsText t → Takes (text t) from next → text_at from ≡ Ok (t, next) }
     ensures tid { (tid : Tid) (from next : Unread) → IsTid tid → Takes (tid_bytes tid) from next → tid_at from ≡ Ok (tid, next) }
     ensures tag { (tag : Tag) (from next : Unread) → IsTag tag → Takes (tag_bytes tag) from next → tag_at from ≡ Ok (tag, next) }
+    ensures mark { (mark : Mark) (from next : Unread) → IsMark mark → Takes (mark_bytes mark) from next → mark_at from ≡ Ok (mark, next) }
     ensures part { (part : PartKey) (from next : Unread) → IsPart part → Takes (part_bytes part) from next → part_at from ≡ Ok (part, next) }
     ensures span { (span : Span) (from next : Unread) → IsSpan span → Takes (span_bytes span) from next → span_at from ≡ Ok (span, next) }
     ensures records { (records : List Applied) (from next : Unread) → AreRecords records → Takes (records_bytes records) from next →

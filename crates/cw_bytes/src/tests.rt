@@ -1,6 +1,7 @@
 //! Fields against bytes that come from an independent model.
 use crate::{
-    FieldFault, Reader, Writer, read_part, read_records, read_span, read_tag, read_tid, write_part,
+    BodyFault, FieldFault, Mark, Reader, Writer, read_mark, read_part, read_record_body,
+    read_records, read_span, read_tag, read_tid, write_mark, write_part, write_record_body,
     write_records, write_span, write_tag, write_tid,
 };
 use cw_types::{Epoch, Name, PartKey, Span, Tag, TaskId, Tid};
@@ -141,5 +142,60 @@ fn ids_parts_and_texts_are_written_and_read(rt: HostRuntime) -> Result<(), Fail>
         assert!(rt; from.take_text() == Ok(b"end".as_slice()));
         assert!(rt; from.is_empty());
     }
+    Ok(())
+}
+
+#[test]
+fn marks_are_written_and_read(rt: HostRuntime) -> Result<(), Fail> {
+    let table: [(bool, &[u8]); 2] = [
+        (
+            false,
+            b"\x03\x00\x00\x00\x01\x00\x00\x00\x00\x00\x00\x00\x02\x00\x00\x00\x00\x00\x00\x00\x03\x00",
+        ),
+        (
+            true,
+            b"\x03\x00\x00\x00\x01\x00\x00\x00\x00\x00\x00\x00\x02\x00\x00\x00\x00\x00\x00\x00\x03\x01",
+        ),
+    ];
+    for (committed, bytes) in table {
+        let tag = Tag {
+            tid: Tid::Raw(1),
+            epoch: Epoch(2),
+            number: 3,
+        };
+        let mut into = Writer::new(rt.alloc());
+        write_mark(&mut into, &Mark { tag, committed })?;
+        assert_eq!(rt; into.into_bytes().as_slice(), bytes);
+        let mut from = Reader::new(bytes);
+        let mark = read_mark(rt.alloc(), &mut from).ok().ok_or("a mark")?;
+        assert!(rt; mark.committed == committed && mark.tag.number == 3);
+        assert!(rt; from.is_empty());
+    }
+    let mut from = Reader::new(
+        b"\x01\x00\x00\x00\x00\x00\x00\x00\x02\x00\x00\x00\x00\x00\x00\x00\x03\x02",
+    );
+    assert!(rt; read_mark(rt.alloc(), &mut from) == Err(FieldFault::BadKind(2)));
+    Ok(())
+}
+
+#[test]
+fn body_of_records_ends_with_its_last_record(rt: HostRuntime) -> Result<(), Fail> {
+    let body =
+        b"\x00\x00\x00\x01\x00\x00\x00\x00\x00\x00\x00\x07\x00\x00\x00\x00\x00\x00\x00\x08\x00\x00\x00\x01k\x00";
+    let records = read_record_body(rt.alloc(), body).ok().ok_or("records")?;
+    assert_eq!(rt; records.len(), 1);
+    let wrong: [&[u8]; 2] = [
+        b"\x00\x00\x00\x00",
+        b"\x00\x00\x00\x01\x00\x00\x00\x00\x00\x00\x00\x07\x00\x00\x00\x00\x00\x00\x00\x08\x00\x00\x00\x01k\x00\x00",
+    ];
+    for body in wrong {
+        assert!(rt; matches!(read_record_body(rt.alloc(), body), Err(BodyFault::NotBody)));
+    }
+    let mut from = Reader::new(body);
+    let records = read_records(rt.alloc(), &mut from).ok().ok_or("records")?;
+    assert_eq!(rt;
+        write_record_body(rt.alloc(), records.as_slice())?.as_slice(),
+        body.as_slice()
+    );
     Ok(())
 }

@@ -1,9 +1,10 @@
 //! Writing fields.
 ghost use Rattle.std.specs.Prelude.{◌≡◌, ◌++◌, OnOk, OnErr};
-ghost use Rattle.cw_bytes.specs.Spelling.{text, tid_bytes, tag_bytes, part_bytes, span_bytes, value_bytes, record_bytes, records_bytes, IsText, IsTid, IsTag, IsPart, IsSpan, IsRecord, AreRecords};
+ghost use Rattle.cw_bytes.specs.Spelling.{text, tid_bytes, tag_bytes, flag_bytes, mark_bytes, part_bytes, span_bytes, value_bytes, record_bytes, records_bytes, IsText, IsTid, IsTag, IsMark, IsPart, IsSpan, IsRecord, AreRecords};
 ghost use Rattle.cw_types.specs.Name.{IsName};
 
 use crate::applied::Applied;
+use crate::mark::Mark;
 use crate::writer::{Writer, add_text, add_u32, add_u64};
 use cw_types::{Name, PartKey, Span, Tag, Tid};
 use std::alloc::AllocError;
@@ -26,9 +27,19 @@ pub fn write_tag(into: &mut Writer, tag: &Tag) -> Result<(), AllocError>
     ensures fits { OnOk result (IsTag tag.now) }
 {
     let mut field = Vec::new(into.alloc());
-    add_tid(&mut field, &tag.tid)?;
-    add_u64(&mut field, tag.epoch.0)?;
-    add_u64(&mut field, tag.number)?;
+    add_tag(&mut field, tag)?;
+    into.put(field.as_slice())
+}
+
+/// Writes a mark.
+pub fn write_mark(into: &mut Writer, mark: &Mark) -> Result<(), AllocError>
+    ensures ok { OnOk result (into.new ≡ into.old ++ mark_bytes mark.now) }
+    ensures err { OnErr result (into.new ≡ into.old) }
+    ensures fits { OnOk result (IsMark mark.now) }
+{
+    let mut field = Vec::new(into.alloc());
+    add_tag(&mut field, &mark.tag)?;
+    add_flag(&mut field, mark.committed)?;
     into.put(field.as_slice())
 }
 
@@ -89,6 +100,25 @@ fn add_tid(field: &mut Vec<u8>, tid: &Tid) -> Result<(), AllocError>
             add_u32(field, *number)
         }
     }
+}
+
+fn add_tag(field: &mut Vec<u8>, tag: &Tag) -> Result<(), AllocError>
+    ensures ok { OnOk result (field.new.items ≡ field.old.items ++ tag_bytes tag.now) }
+    ensures fits { OnOk result (IsTag tag.now) }
+{
+    add_tid(field, &tag.tid)?;
+    add_u64(field, tag.epoch.0)?;
+    add_u64(field, tag.number)
+}
+
+fn add_flag(field: &mut Vec<u8>, committed: bool) -> Result<(), AllocError>
+    ensures { OnOk result (field.new.items ≡ field.old.items ++ flag_bytes committed) }
+{
+    match committed {
+        false => field.push(0)?,
+        true => field.push(1)?,
+    }
+    Ok(())
 }
 
 fn add_part(field: &mut Vec<u8>, part: &PartKey) -> Result<(), AllocError>

@@ -1,6 +1,7 @@
 use Rattle.cw_bytes.proofs.Steps.{byte_again}
 use Rattle.cw_bytes.proofs.Widths.{word_again, long_again, text_again}
 use Rattle.cw_bytes.proofs.Producers.{tid_again, tag_again}
+use Rattle.cw_bytes.proofs.Marks.{mark_again}
 use Rattle.cw_bytes.proofs.Parts.{part_again, span_again}
 use Rattle.cw_bytes.proofs.Records.{records_again}
 use Rattle.cw_bytes.proofs.reader.spelled_fields_are_read.Goals as goal
@@ -22,6 +23,9 @@ returns-clause-tid c x from next is = tid_again x is from next
 
 pub returns-clause-tag : goal.returns-clause-tag
 returns-clause-tag c x from next is = tag_again x is from next
+
+pub returns-clause-mark : goal.returns-clause-mark
+returns-clause-mark c x from next is = mark_again x is from next
 
 pub returns-clause-part : goal.returns-clause-part
 returns-clause-part c x from next is = part_again x is from next
