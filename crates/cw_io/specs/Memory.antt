@@ -1,5 +1,6 @@
--- What clauses see of the source and the sink in memory.
+-- What clauses see of the source, the sink and the shelf in memory.
 use Rattle.std.specs.Prelude.{ℕ, List}
+use Rattle.cw_io.specs.Shelf.{Files}
 
 -- the bytes that are left to read, and how many calls failed
 pub record SourceState : Type 0 where
@@ -9,4 +10,9 @@ pub record SourceState : Type 0 where
 -- the bytes that were taken, and how many calls failed
 pub record SinkState : Type 0 where
   pub held : List ℕ
+  pub faults : ℕ
+
+-- the files, and how many calls failed
+pub record ShelfState : Type 0 where
+  pub files : Files
   pub faults : ℕ
