@@ -1,10 +1,9 @@
 -- What the definitions over a list of records say of a list with one record more.
-use Rattle.std.proofs.Common.{◌≡◌, ℕ, ◌+◌, ◌-◌, ◌≤◌, Bool, true, false, ◌&&◌, cond, leb, ltb, max, List, [], ◌∷◌, ◌++◌, Option, Some, None, is_some, option_and_then, length, length-append, ap, sym, ◌∙◌, refl, arith}
-use Rattle.std.specs.List.{find, slice_get, fold}
+use Rattle.std.proofs.Common.{◌≡◌, ℕ, ◌+◌, ◌-◌, ◌≤◌, Bool, true, false, ◌&&◌, cond, leb, max, List, [], ◌∷◌, ◌++◌, Option, Some, is_some, option_and_then, length, length-append, ap, sym, ◌∙◌, refl, arith}
+use Rattle.std.specs.List.{find, slice_get}
 use Rattle.std.proofs.lemmas.List.{reverse-append}
 use Rattle.std.proofs.lemmas.List.Sums.{fold-append}
 use Rattle.std.proofs.lemmas.Bool.Decides.{nat_tests}
-use Rattle.cw_keys.specs.declared.config_key.ConfigKey.{ConfigKey}
 use Rattle.cw_keys.specs.declared.config_key.ConfigKey.TheVariants.{Connector}
 use Rattle.cw_config.specs.declared.records.ConfigRecord.{ConfigRecord}
 use Rattle.cw_config.specs.Records.{has_key, last_where, last_of, value_of}

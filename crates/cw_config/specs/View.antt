@@ -4,7 +4,6 @@ use Rattle.std.specs.Prelude.{ℕ, ◌&&◌, Bool, true, false, not, nat_lt, Lis
 use Rattle.cw_types.specs.declared.ids.TaskId.{TaskId}
 use Rattle.cw_keys.specs.declared.target.Target.{Target}
 use Rattle.cw_keys.specs.declared.target.Target.TheVariants.{Started}
-use Rattle.cw_keys.specs.declared.config_key.ConfigKey.{ConfigKey}
 use Rattle.cw_keys.specs.declared.config_key.ConfigKey.TheVariants.{Connector, Task, Commit, Target as TargetState, Fencing}
 use Rattle.cw_keys.specs.declared.config_value.ConfigValue.{ConfigValue}
 use Rattle.cw_keys.specs.declared.config_value.ConfigValue.TheVariants as value

@@ -11,10 +11,9 @@ mod fault;
 mod records;
 mod scan;
 mod state;
-
-
+#[cfg(test)]
+mod tests;
 
 pub use fault::ApplyFault;
 pub use records::ConfigRecord;
 pub use state::ConfigState;
-

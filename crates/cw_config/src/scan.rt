@@ -79,10 +79,7 @@ pub fn last_before<'a>(
 ) -> Option<&'a ConfigRecord>
     ensures { option_copied result ≡ last_where (λ r. has_key (key_of key.now) r && is_before generation r) records.now }
 {
-    records
-        .iter()
-        .rev()
-        .find(|record| key.is(&record.key) && is_before(record, generation))
+    records.iter().rev().find(|record| key.is(&record.key) && is_before(record, generation))
 }
 
 // The last record of a key behind a generation.
@@ -93,10 +90,7 @@ pub fn last_behind<'a>(
 ) -> Option<&'a ConfigRecord>
     ensures { option_copied result ≡ last_where (λ r. has_key (key_of key.now) r && is_behind generation r) records.now }
 {
-    records
-        .iter()
-        .rev()
-        .find(|record| key.is(&record.key) && is_behind(record, generation))
+    records.iter().rev().find(|record| key.is(&record.key) && is_behind(record, generation))
 }
 
 // The properties that a record's value is.

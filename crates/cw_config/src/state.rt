@@ -218,10 +218,10 @@ impl ConfigState {
     }
 
     // Whether a commit has its tasks; other records need nothing.
-    fn is_backed(&self, record: &ConfigRecord) -> bool
-        ensures { result ≡ is_backed self.now «record».now.key «record».now.value }
+    fn is_backed(&self, added: &ConfigRecord) -> bool
+        ensures { result ≡ is_backed self.now added.now.key added.now.value }
     {
-        match (&record.key, &record.value) {
+        match (&added.key, &added.value) {
             (ConfigKey::Commit(name), Some(ConfigValue::Commit(count))) => {
                 self.has_tasks(name, *count)
             }
@@ -240,9 +240,9 @@ impl ConfigState {
     }
 
     // Whether a record may stand behind the others.
-    fn may_follow(&self, record: &ConfigRecord) -> bool
-        ensures { result ≡ may_follow self.now «record».now }
+    fn may_follow(&self, added: &ConfigRecord) -> bool
+        ensures { result ≡ may_follow self.now added.now }
     {
-        self.is_above(record.offset) && self.is_backed(record)
+        self.is_above(added.offset) && self.is_backed(added)
     }
 }

@@ -1,0 +1,526 @@
+//! Records of the config log with what a state says behind them, made by a model outside this project.
+
+// A new state, a record (its offset, key and value) that is taken or refused, or a look-up with its answer.
+pub const RECORDS: &str = r##"new
+next => 0
+connectors => none
+new
+apply 0 connector-a {"properties":{"v":"1"}} => ok
+next => 1
+connectors => a
+show a => {"v":"1"} STARTED none 0 0 false
+new
+apply 5 connector-a {"properties":{"v":"1"}} => ok
+apply 5 connector-a {"properties":{"v":"2"}} => refused
+next => 6
+connectors => a
+show a => {"v":"1"} STARTED none 0 0 false
+new
+apply 5 connector-a {"properties":{"v":"1"}} => ok
+apply 4 connector-a {"properties":{"v":"2"}} => refused
+next => 6
+connectors => a
+show a => {"v":"1"} STARTED none 0 0 false
+new
+apply 0 connector-a {"properties":{"v":"1"}} => ok
+apply 1 connector-a {"properties":{"v":"2"}} => ok
+next => 2
+connectors => a
+show a => {"v":"2"} STARTED none 0 0 false
+new
+apply 18446744073709551615 connector-a {"properties":{"v":"1"}} => ok
+next => none
+connectors => a
+show a => {"v":"1"} STARTED none 0 0 false
+new
+apply 18446744073709551615 connector-a {"properties":{"v":"1"}} => ok
+apply 18446744073709551615 connector-a {"properties":{"v":"2"}} => refused
+next => none
+connectors => a
+show a => {"v":"1"} STARTED none 0 0 false
+new
+apply 0 commit-a {"tasks":0} => ok
+next => 1
+connectors => none
+show a => none STARTED 0 0 0 true
+new
+apply 0 commit-a {"tasks":1} => refused
+next => 0
+connectors => none
+show a => none STARTED none 0 0 false
+new
+apply 0 task-a-0 {"properties":{"v":"1"}} => ok
+apply 1 commit-a {"tasks":1} => ok
+next => 2
+connectors => none
+show a => none STARTED 1 1 0 true
+task a 0 => {"v":"1"} none
+new
+apply 0 task-a-0 {"properties":{"v":"1"}} => ok
+apply 1 commit-a {"tasks":2} => refused
+next => 1
+connectors => none
+show a => none STARTED none 0 0 false
+task a 0 => none {"v":"1"}
+new
+apply 0 task-a-0 {"properties":{"v":"1"}} => ok
+apply 1 commit-a {"tasks":2} => refused
+apply 2 task-a-1 {"properties":{"v":"1"}} => ok
+apply 3 commit-a {"tasks":2} => ok
+next => 4
+connectors => none
+show a => none STARTED 3 2 0 true
+task a 0 => {"v":"1"} none
+task a 1 => {"v":"1"} none
+new
+apply 0 task-a-1 {"properties":{"v":"1"}} => ok
+apply 1 commit-a {"tasks":1} => refused
+next => 1
+connectors => none
+show a => none STARTED none 0 0 false
+task a 1 => none {"v":"1"}
+new
+apply 0 task-a-0 {"properties":{"v":"1"}} => ok
+apply 1 task-a-1 {"properties":{"v":"1"}} => ok
+apply 2 commit-a {"tasks":1} => ok
+next => 3
+connectors => none
+show a => none STARTED 2 1 0 true
+task a 0 => {"v":"1"} none
+task a 1 => none none
+new
+apply 0 task-a-0 {"properties":{"v":"1"}} => ok
+apply 1 commit-a {"tasks":1} => ok
+apply 2 commit-a {"tasks":1} => refused
+next => 2
+connectors => none
+show a => none STARTED 1 1 0 true
+task a 0 => {"v":"1"} none
+new
+apply 0 task-a-0 {"properties":{"v":"1"}} => ok
+apply 1 commit-a {"tasks":1} => ok
+apply 2 task-a-0 {"properties":{"v":"2"}} => ok
+next => 3
+connectors => none
+show a => none STARTED 1 1 0 true
+task a 0 => {"v":"1"} {"v":"2"}
+new
+apply 0 task-a-0 {"properties":{"v":"1"}} => ok
+apply 1 commit-a {"tasks":1} => ok
+apply 2 task-a-0 {"properties":{"v":"2"}} => ok
+apply 3 commit-a {"tasks":1} => ok
+next => 4
+connectors => none
+show a => none STARTED 3 1 0 true
+task a 0 => {"v":"2"} none
+new
+apply 0 task-a-0 {"properties":{"v":"1"}} => ok
+apply 1 task-a-0 {"properties":{"v":"2"}} => ok
+apply 2 commit-a {"tasks":1} => ok
+next => 3
+connectors => none
+show a => none STARTED 2 1 0 true
+task a 0 => {"v":"2"} none
+new
+apply 0 task-a-0 {"properties":{"v":"1"}} => ok
+apply 1 commit-a {"tasks":1} => ok
+apply 2 commit-a {"tasks":0} => ok
+next => 3
+connectors => none
+show a => none STARTED 2 0 0 true
+task a 0 => none none
+new
+apply 0 task-a-0 {"properties":{"v":"1"}} => ok
+apply 1 commit-a {"tasks":1} => ok
+apply 2 tasks-fencing-a {"task-count":1} => ok
+next => 3
+connectors => none
+show a => none STARTED 1 1 1 false
+task a 0 => {"v":"1"} none
+new
+apply 0 task-a-0 {"properties":{"v":"1"}} => ok
+apply 1 commit-a {"tasks":1} => ok
+apply 2 tasks-fencing-a {"task-count":1} => ok
+apply 3 task-a-0 {"properties":{"v":"2"}} => ok
+apply 4 commit-a {"tasks":1} => ok
+next => 5
+connectors => none
+show a => none STARTED 4 1 1 true
+task a 0 => {"v":"2"} none
+new
+apply 0 tasks-fencing-a {"task-count":3} => ok
+next => 1
+connectors => none
+show a => none STARTED none 0 3 false
+new
+apply 0 tasks-fencing-a {"task-count":3} => ok
+apply 1 commit-a {"tasks":0} => ok
+next => 2
+connectors => none
+show a => none STARTED 1 0 3 true
+new
+apply 0 connector-a {"properties":{"v":"1"}} => ok
+apply 1 connector-a none => ok
+next => 2
+connectors => none
+show a => none STARTED none 0 0 false
+new
+apply 0 connector-a {"properties":{"v":"1"}} => ok
+apply 1 connector-a none => ok
+apply 2 connector-a {"properties":{"v":"3"}} => ok
+next => 3
+connectors => a
+show a => {"v":"3"} STARTED none 0 0 false
+new
+apply 0 target-state-a {"state":"PAUSED","state.v2":"STOPPED"} => ok
+next => 1
+connectors => none
+show a => none STOPPED none 0 0 false
+new
+apply 0 target-state-a {"state":"PAUSED","state.v2":"PAUSED"} => ok
+apply 1 target-state-a {"state":"STARTED","state.v2":"STARTED"} => ok
+next => 2
+connectors => none
+show a => none STARTED none 0 0 false
+new
+apply 0 target-state-a {"state":"PAUSED","state.v2":"PAUSED"} => ok
+apply 1 target-state-a none => ok
+next => 2
+connectors => none
+show a => none STARTED none 0 0 false
+new
+apply 0 task-x-a none => refused
+apply 1 connector-a {"properties":{"v":"1"}} => ok
+next => 2
+connectors => a
+show a => {"v":"1"} STARTED none 0 0 false
+new
+apply 0 commit-a none => refused
+next => 0
+connectors => none
+new
+apply 0 tasks-fencing-a none => refused
+next => 0
+connectors => none
+new
+apply 0 foo-a {} => refused
+apply 0 connector-a {"properties":{"v":"1"}} => ok
+next => 1
+connectors => a
+show a => {"v":"1"} STARTED none 0 0 false
+new
+apply 0 connector-a {} => refused
+apply 0 connector-a {"properties":{"v":"1"}} => ok
+next => 1
+connectors => a
+show a => {"v":"1"} STARTED none 0 0 false
+new
+apply 0 connector-a {"properties":{"v":"1"}} => ok
+apply 1 connector-s {"properties":{"v":"1"}} => ok
+apply 2 connector-a none => ok
+next => 3
+connectors => s
+show a => none STARTED none 0 0 false
+show s => {"v":"1"} STARTED none 0 0 false
+new
+apply 0 task-a-0 {"properties":{"v":"1"}} => ok
+apply 1 task-s-0 {"properties":{"v":"5"}} => ok
+apply 2 commit-s {"tasks":1} => ok
+apply 3 commit-a {"tasks":1} => ok
+next => 4
+connectors => none
+show a => none STARTED 3 1 0 true
+task a 0 => {"v":"1"} none
+show s => none STARTED 2 1 0 true
+task s 0 => {"v":"5"} none
+new
+apply 0 task-a-0 {"properties":{"v":"1"}} => ok
+apply 1 commit-a {"tasks":1} => ok
+apply 2 connector-a {"properties":{"v":"1"}} => ok
+apply 3 connector-a none => ok
+apply 4 connector-a {"properties":{"v":"1"}} => ok
+next => 5
+connectors => a
+show a => {"v":"1"} STARTED 1 1 0 true
+task a 0 => {"v":"1"} none
+new
+apply 3 connector-a {"properties":{"v":"1"}} => ok
+apply 9 task-a-0 {"properties":{"v":"1"}} => ok
+apply 10 commit-a {"tasks":1} => ok
+apply 40 tasks-fencing-a {"task-count":1} => ok
+apply 41 target-state-a {"state":"PAUSED","state.v2":"PAUSED"} => ok
+next => 42
+connectors => a
+show a => {"v":"1"} PAUSED 10 1 1 false
+task a 0 => {"v":"1"} none
+new
+apply 0 task-a-0 {"properties":{"v":"1"}} => ok
+apply 1 commit-a {"tasks":1} => ok
+apply 2 tasks-fencing-a {"task-count":7} => ok
+next => 3
+connectors => none
+show a => none STARTED 1 1 7 false
+task a 0 => {"v":"1"} none
+new
+apply 0 connector-b {"properties":{"v":"1"}} => ok
+apply 1 connector-a {"properties":{"v":"1"}} => ok
+apply 2 connector-B {"properties":{"v":"1"}} => ok
+next => 3
+connectors => B a b
+show B => {"v":"1"} STARTED none 0 0 false
+show a => {"v":"1"} STARTED none 0 0 false
+show b => {"v":"1"} STARTED none 0 0 false
+new
+apply 0 task-a-0 {"properties":{"v":"1"}} => ok
+apply 0 commit-a {"tasks":1} => refused
+apply 1 commit-a {"tasks":1} => ok
+next => 2
+connectors => none
+show a => none STARTED 1 1 0 true
+task a 0 => {"v":"1"} none
+new
+apply 1 task-s-1 {"properties":{"v":"1"}} => ok
+apply 3 commit-a {"tasks":1} => refused
+apply 5 task-a-0 {"properties":{"v":"7"}} => ok
+apply 7 commit-s {"tasks":2} => refused
+apply 8 task-s-2 {"properties":{"v":"1"}} => ok
+apply 9 commit-a none => refused
+apply 10 connector-s {"properties":{"v":"0"}} => ok
+apply 11 task-s-0 {"properties":{"v":"4"}} => ok
+apply 12 task-a-1 {"properties":{"v":"7"}} => ok
+apply 13 commit-a {"tasks":3} => refused
+apply 13 connector-s {"properties":{"v":"8"}} => ok
+apply 14 target-state-s {"state":"STARTED","state.v2":"STARTED"} => ok
+apply 14 task-a-2 {"properties":{"v":"1"}} => refused
+apply 16 tasks-fencing-a {"task-count":2} => ok
+apply 17 task-s-0 {"properties":{"v":"5"}} => ok
+apply 18 connector-a {"properties":{"v":"7"}} => ok
+apply 19 commit-a {"tasks":2} => ok
+next => 20
+connectors => a s
+show a => {"v":"7"} STARTED 19 2 2 true
+task a 0 => {"v":"7"} none
+task a 1 => {"v":"7"} none
+task a 2 => none none
+show s => {"v":"8"} STARTED none 0 0 false
+task s 0 => none {"v":"5"}
+task s 1 => none {"v":"1"}
+task s 2 => none {"v":"1"}
+new
+apply 8 commit-a {"tasks":2} => refused
+apply 9 task-s-1 {"properties":{"v":"3"}} => ok
+apply 11 task-a-1 {"properties":{"v":"6"}} => ok
+apply 12 task-a-0 {"properties":{"v":"7"}} => ok
+apply 13 task-a-2 {"properties":{"v":"4"}} => ok
+apply 14 tasks-fencing-a {"task-count":0} => ok
+apply 15 commit-a {"tasks":3} => ok
+apply 17 task-a-0 {"properties":{"v":"5"}} => ok
+apply 18 task-s-1 {"properties":{"v":"8"}} => ok
+next => 19
+connectors => none
+show a => none STARTED 15 3 0 true
+task a 0 => {"v":"7"} {"v":"5"}
+task a 1 => {"v":"6"} none
+task a 2 => {"v":"4"} none
+show s => none STARTED none 0 0 false
+task s 1 => none {"v":"8"}
+new
+apply 1 task-s-0 {"properties":{"v":"3"}} => ok
+apply 2 connector-a {"properties":{"v":"4"}} => ok
+apply 3 task-a-0 {"properties":{"v":"2"}} => ok
+apply 3 task-a-1 {"properties":{"v":"1"}} => refused
+apply 4 task-s-0 {"properties":{"v":"3"}} => ok
+apply 5 task-a-0 {"properties":{"v":"3"}} => ok
+apply 6 connector-s {"properties":{"v":"6"}} => ok
+apply 8 commit-a {"tasks":2} => refused
+apply 9 task-a-0 {"properties":{"v":"2"}} => ok
+apply 10 connector-s {"properties":{"v":"4"}} => ok
+apply 12 commit-a {"tasks":3} => refused
+apply 13 connector-a {"properties":{"v":"8"}} => ok
+apply 14 commit-a {"tasks":2} => refused
+apply 14 connector-s {"properties":{"v":"1"}} => ok
+apply 15 task-a-2 {"properties":{"v":"2"}} => ok
+apply 16 task-a-2 {"properties":{"v":"7"}} => ok
+apply 17 connector-s none => ok
+apply 18 commit-a {"tasks":3} => refused
+apply 18 commit-s {"tasks":3} => refused
+next => 18
+connectors => a
+show a => {"v":"8"} STARTED none 0 0 false
+task a 0 => none {"v":"2"}
+task a 1 => none none
+task a 2 => none {"v":"7"}
+show s => none STARTED none 0 0 false
+task s 0 => none {"v":"3"}
+new
+apply 8 task-a-1 {"properties":{"v":"4"}} => ok
+apply 8 commit-a {"tasks":3} => refused
+apply 9 task-a-1 {"properties":{"v":"6"}} => ok
+apply 10 connector-a {"properties":{"v":"0"}} => ok
+apply 10 task-a-1 {"properties":{"v":"2"}} => refused
+apply 11 task-s-2 {"properties":{"v":"8"}} => ok
+apply 12 commit-a {"tasks":2} => refused
+apply 13 task-a-2 {"properties":{"v":"3"}} => ok
+apply 15 task-a-2 {"properties":{"v":"4"}} => ok
+apply 16 commit-a none => refused
+apply 17 target-state-s none => ok
+apply 19 connector-s {"properties":{"v":"7"}} => ok
+apply 20 commit-a {"tasks":3} => refused
+apply 21 task-a-2 {"properties":{"v":"3"}} => ok
+apply 22 task-s-0 {"properties":{"v":"6"}} => ok
+apply 23 connector-a {"properties":{"v":"2"}} => ok
+apply 24 commit-a {"tasks":1} => refused
+next => 24
+connectors => a s
+show a => {"v":"2"} STARTED none 0 0 false
+task a 1 => none {"v":"6"}
+task a 2 => none {"v":"3"}
+show s => {"v":"7"} STARTED none 0 0 false
+task s 0 => none {"v":"6"}
+task s 2 => none {"v":"8"}
+new
+apply 1 task-a-2 {"properties":{"v":"7"}} => ok
+apply 2 connector-a {"properties":{"v":"2"}} => ok
+apply 3 task-s-2 {"properties":{"v":"1"}} => ok
+apply 3 commit-a {"tasks":1} => refused
+apply 3 tasks-fencing-a {"task-count":2} => refused
+apply 3 task-a-0 {"properties":{"v":"1"}} => refused
+apply 4 connector-a {"properties":{"v":"5"}} => ok
+apply 5 connector-a {"properties":{"v":"3"}} => ok
+apply 6 task-a-1 {"properties":{"v":"1"}} => ok
+apply 7 commit-s {"tasks":1} => refused
+apply 8 task-a-1 {"properties":{"v":"1"}} => ok
+apply 9 tasks-fencing-a {"task-count":1} => ok
+apply 10 tasks-fencing-a {"task-count":0} => ok
+apply 10 connector-a none => refused
+apply 12 commit-a {"tasks":2} => refused
+apply 13 task-s-0 {"properties":{"v":"3"}} => ok
+apply 14 task-a-0 {"properties":{"v":"1"}} => ok
+next => 15
+connectors => a
+show a => {"v":"3"} STARTED none 0 0 false
+task a 0 => none {"v":"1"}
+task a 1 => none {"v":"1"}
+task a 2 => none {"v":"7"}
+show s => none STARTED none 0 0 false
+task s 0 => none {"v":"3"}
+task s 2 => none {"v":"1"}
+new
+apply 1 task-a-1 {"properties":{"v":"8"}} => ok
+apply 2 connector-a {"properties":{"v":"2"}} => ok
+apply 3 task-a-2 {"properties":{"v":"4"}} => ok
+apply 5 tasks-fencing-a {"task-count":1} => ok
+apply 7 task-s-2 {"properties":{"v":"1"}} => ok
+apply 8 task-a-2 {"properties":{"v":"1"}} => ok
+apply 10 task-s-0 {"properties":{"v":"3"}} => ok
+apply 10 task-a-0 {"properties":{"v":"0"}} => refused
+apply 10 commit-s {"tasks":1} => refused
+apply 11 task-a-0 {"properties":{"v":"8"}} => ok
+apply 12 tasks-fencing-a {"task-count":2} => ok
+apply 13 task-s-2 {"properties":{"v":"8"}} => ok
+apply 13 task-s-0 {"properties":{"v":"7"}} => refused
+apply 15 connector-s {"properties":{"v":"6"}} => ok
+apply 16 commit-s {"tasks":3} => refused
+apply 17 connector-a {"properties":{"v":"6"}} => ok
+apply 19 task-a-0 {"properties":{"v":"1"}} => ok
+apply 21 task-a-2 {"properties":{"v":"8"}} => ok
+apply 22 task-a-0 {"properties":{"v":"2"}} => ok
+apply 24 connector-s {"properties":{"v":"1"}} => ok
+apply 25 commit-a {"tasks":0} => ok
+apply 26 connector-a {"properties":{"v":"4"}} => ok
+apply 27 task-a-2 {"properties":{"v":"0"}} => ok
+apply 28 task-s-1 {"properties":{"v":"4"}} => ok
+next => 29
+connectors => a s
+show a => {"v":"4"} STARTED 25 0 2 true
+task a 0 => none none
+task a 1 => none none
+task a 2 => none {"v":"0"}
+show s => {"v":"1"} STARTED none 0 0 false
+task s 0 => none {"v":"3"}
+task s 1 => none {"v":"4"}
+task s 2 => none {"v":"8"}
+new
+apply 8 commit-s {"tasks":3} => refused
+apply 9 commit-s {"tasks":3} => refused
+apply 10 connector-a {"properties":{"v":"4"}} => ok
+apply 11 connector-a {"properties":{"v":"8"}} => ok
+apply 12 task-a-1 {"properties":{"v":"2"}} => ok
+apply 13 tasks-fencing-a {"task-count":0} => ok
+apply 14 task-s-1 {"properties":{"v":"3"}} => ok
+apply 15 task-s-1 {"properties":{"v":"0"}} => ok
+apply 15 commit-a {"tasks":1} => refused
+apply 16 task-s-1 {"properties":{"v":"1"}} => ok
+apply 16 commit-a {"tasks":1} => refused
+apply 18 connector-a {"properties":{"v":"6"}} => ok
+apply 19 target-state-a {"state":"STARTED","state.v2":"STARTED"} => ok
+apply 20 target-state-s {"state":"PAUSED","state.v2":"STOPPED"} => ok
+apply 21 commit-a {"tasks":2} => refused
+apply 23 connector-s {"properties":{"v":"8"}} => ok
+apply 24 task-a-2 {"properties":{"v":"4"}} => ok
+apply 25 task-a-2 {"properties":{"v":"2"}} => ok
+apply 26 commit-a {"tasks":3} => refused
+apply 28 connector-s {"properties":{"v":"2"}} => ok
+apply 29 task-s-0 {"properties":{"v":"1"}} => ok
+next => 30
+connectors => a s
+show a => {"v":"6"} STARTED none 0 0 false
+task a 1 => none {"v":"2"}
+task a 2 => none {"v":"2"}
+show s => {"v":"2"} STOPPED none 0 0 false
+task s 0 => none {"v":"1"}
+task s 1 => none {"v":"1"}
+new
+apply 1 connector-a {"properties":{"v":"4"}} => ok
+apply 3 task-s-0 {"properties":{"v":"5"}} => ok
+apply 4 commit-a {"tasks":0} => ok
+apply 5 task-s-1 {"properties":{"v":"4"}} => ok
+apply 7 commit-a {"tasks":3} => refused
+apply 7 task-a-0 {"properties":{"v":"2"}} => ok
+apply 9 commit-a {"tasks":1} => ok
+apply 10 task-a-2 {"properties":{"v":"3"}} => ok
+apply 11 tasks-fencing-a {"task-count":2} => ok
+apply 12 tasks-fencing-a {"task-count":0} => ok
+apply 13 connector-a {"properties":{"v":"3"}} => ok
+apply 14 task-a-2 {"properties":{"v":"4"}} => ok
+apply 15 connector-a none => ok
+apply 16 task-a-2 {"properties":{"v":"1"}} => ok
+next => 17
+connectors => none
+show a => none STARTED 9 1 0 false
+task a 0 => {"v":"2"} none
+task a 2 => none {"v":"1"}
+show s => none STARTED none 0 0 false
+task s 0 => none {"v":"5"}
+task s 1 => none {"v":"4"}
+new
+apply 0 connector-s {"properties":{"v":"1"}} => ok
+apply 1 task-a-1 {"properties":{"v":"6"}} => ok
+apply 1 task-a-0 {"properties":{"v":"8"}} => refused
+apply 2 tasks-fencing-s {"task-count":1} => ok
+apply 3 connector-a {"properties":{"v":"0"}} => ok
+apply 4 target-state-a {"state":"STARTED","state.v2":"STARTED"} => ok
+apply 5 task-s-0 {"properties":{"v":"7"}} => ok
+apply 6 task-a-0 {"properties":{"v":"2"}} => ok
+apply 7 commit-s {"tasks":1} => ok
+apply 8 task-s-1 {"properties":{"v":"0"}} => ok
+apply 9 task-s-0 {"properties":{"v":"3"}} => ok
+apply 9 commit-a {"tasks":0} => refused
+apply 10 commit-s {"tasks":1} => ok
+apply 10 commit-a {"tasks":3} => refused
+apply 11 target-state-a {"state":"PAUSED","state.v2":"PAUSED"} => ok
+apply 12 connector-a {"properties":{"v":"0"}} => ok
+apply 13 task-a-2 {"properties":{"v":"4"}} => ok
+apply 14 commit-a {"tasks":1} => ok
+apply 16 commit-a {"tasks":2} => refused
+apply 16 connector-s {"properties":{"v":"3"}} => ok
+apply 17 task-s-0 {"properties":{"v":"8"}} => ok
+next => 18
+connectors => a s
+show a => {"v":"0"} PAUSED 14 1 0 true
+task a 0 => {"v":"2"} none
+task a 1 => none none
+task a 2 => none none
+show s => {"v":"3"} STARTED 10 1 1 true
+task s 0 => {"v":"3"} {"v":"8"}
+task s 1 => none none"##;
