@@ -1,0 +1,5 @@
+pub mod ShareLemmas
+pub mod GroupLemmas
+pub mod FaultlessLemmas
+pub mod TaskLemmas
+pub mod LawLemmas

@@ -5,6 +5,8 @@ use Rattle.cw_plugin.specs.declared.class.Class.{Class}
 use Rattle.cw_plugin.specs.declared.class.Class.TheVariants.{FileStreamSource, FileSetSource, SequenceSource, FileStreamSink}
 use Rattle.cw_plugin.specs.declared.class.Field.{Field}
 use Rattle.cw_plugin.specs.declared.class.Field.TheVariants.{Feed, Feeds, Sequences, Count, Topic, Outlet, Topics}
+use Rattle.cw_plugin.specs.declared.class.TaskField.{TaskField}
+use Rattle.cw_plugin.specs.declared.class.TaskField.TheVariants.{TaskClass, BatchSize, Whole, Group}
 
 -- a row of the table of classes
 pub record ClassRow : Type 0 where
@@ -18,6 +20,10 @@ pub record ClassRow : Type 0 where
   pub is_source : Bool
   -- the required properties, in the order of their tests
   pub fields : List Field
+  -- the list that its tasks share out
+  pub shared : Option Field
+  -- the properties of a task, their keys rising
+  pub task_fields : List TaskField
 
 -- the table
 abbrev pub row_of : Class → ClassRow
@@ -28,6 +34,8 @@ row_of FileStreamSource = record {
   task = codes "FileStreamSourceTask";
   is_source = true;
   fields = Feed ∷ Topic ∷ [];
+  shared = None;
+  task_fields = BatchSize ∷ Whole Feed ∷ TaskClass ∷ Whole Topic ∷ [];
 }
 row_of FileSetSource = record {
   name = codes "FileSetSource";
@@ -36,6 +44,8 @@ row_of FileSetSource = record {
   task = codes "FileSetSourceTask";
   is_source = true;
   fields = Feeds ∷ Topic ∷ [];
+  shared = Some Feeds;
+  task_fields = BatchSize ∷ Group Feeds ∷ TaskClass ∷ Whole Topic ∷ [];
 }
 row_of SequenceSource = record {
   name = codes "SequenceSource";
@@ -44,6 +54,8 @@ row_of SequenceSource = record {
   task = codes "SequenceSourceTask";
   is_source = true;
   fields = Sequences ∷ Count ∷ Topic ∷ [];
+  shared = Some Sequences;
+  task_fields = BatchSize ∷ Whole Count ∷ Group Sequences ∷ TaskClass ∷ Whole Topic ∷ [];
 }
 row_of FileStreamSink = record {
   name = codes "FileStreamSink";
@@ -52,6 +64,8 @@ row_of FileStreamSink = record {
   task = codes "FileStreamSinkTask";
   is_source = false;
   fields = Outlet ∷ Topics ∷ [];
+  shared = Some Topics;
+  task_fields = Whole Outlet ∷ TaskClass ∷ Group Topics ∷ [];
 }
 
 -- the classes
@@ -106,3 +120,10 @@ is_list Count = false
 is_list Topic = false
 is_list Outlet = false
 is_list Topics = true
+
+-- the key of a task's property
+abbrev pub task_key : TaskField → List ℕ
+task_key TaskClass = codes "task.class"
+task_key BatchSize = codes "batch.size"
+task_key (Whole field) = key_of field
+task_key (Group field) = key_of field

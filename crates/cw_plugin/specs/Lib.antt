@@ -3,3 +3,4 @@ pub mod Classes
 pub mod Lists
 pub mod Numbers
 pub mod Parts
+pub mod Tasks

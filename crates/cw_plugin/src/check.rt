@@ -1,9 +1,10 @@
 //! Whether a connector's config may be taken.
-ghost use Rattle.std.specs.Prelude.{◌≡◌, IfOk, option_map, not};
+ghost use Rattle.std.specs.Prelude.{◌≡◌, IfOk, OnOk, option_map, not};
 ghost use Rattle.std.specs.List.{list_any};
 ghost use Rattle.cw_json.specs.Pairs.{value_in};
 ghost use Rattle.cw_plugin.specs.Classes.{row_of, key_of};
 ghost use Rattle.cw_plugin.specs.Checks.{Gives, checked, fault_of_class, is_name, is_among, first_failing, is_lacking, missing_key, is_bad_number, is_value_bad, bad_key, bad_number, feed_lacking_in, value_feed_lacking, feed_lacking, is_bad_name};
+ghost use Rattle.cw_plugin.specs.Tasks.{IsFaultless};
 
 use crate::class::{Class, Field, class_of, row_of};
 use crate::fault::PluginFault;
@@ -243,7 +244,8 @@ fn fault_of_class(
 /// The faults come in the order of `PluginFault`; in each, required keys come in the order of the
 /// class's row, and numbers in the order `tasks.max`, `batch.size`, `partitions`, `count`.
 pub fn check_config(alloc: Global, props: &Props, feeds: &[Name]) -> Result<Class, PluginFault>
-    ensures { Gives result (checked (is_among feeds.now) props.now) }
+    ensures class { Gives result (checked (is_among feeds.now) props.now) }
+    ensures faultless { OnOk result (IsFaultless props.now) }
 {
     let Some(text) = props.get("connector.class") else {
         return Err(PluginFault::NoClass);

@@ -1,6 +1,6 @@
 //! The table of connector classes.
 ghost use Rattle.std.specs.Prelude.{◌≡◌, bytes_eq, option_map};
-ghost use Rattle.cw_plugin.specs.Classes.{row_of, key_of, is_list, is_called, is_text, class_of, class_among, task_class_of, task_class_among};
+ghost use Rattle.cw_plugin.specs.Classes.{row_of, key_of, task_key, is_list, is_called, is_text, class_of, class_among, task_class_of, task_class_among};
 
 /// A connector class.
 #[derive(Clone, Copy, Debug, PartialEq, Eq, Drop)]
@@ -57,6 +57,32 @@ impl Field {
     }
 }
 
+// A property of a task.
+#[derive(Clone, Copy, Debug, PartialEq, Eq, Drop)]
+pub enum TaskField {
+    // `task.class`, what its class's tasks are called.
+    TaskClass,
+    // `batch.size`, where its connector has one.
+    BatchSize,
+    // A required property, as its connector has it.
+    Whole(Field),
+    // A list, of which a task has its group.
+    Group(Field),
+}
+
+impl TaskField {
+    // The property's key.
+    pub(crate) fn key(self) -> &'static str
+        ensures { result.now ≡ task_key self }
+    {
+        match self {
+            TaskField::TaskClass => "task.class",
+            TaskField::BatchSize => "batch.size",
+            TaskField::Whole(field) | TaskField::Group(field) => field.key(),
+        }
+    }
+}
+
 // A row of the table of classes.
 #[derive(Clone, Copy, Drop)]
 pub(crate) struct Row {
@@ -66,6 +92,8 @@ pub(crate) struct Row {
     pub(crate) task: &'static str,
     pub(crate) is_source: bool,
     pub(crate) fields: &'static [Field],
+    pub(crate) shared: Option<Field>,
+    pub(crate) task_fields: &'static [TaskField],
 }
 
 // The table: a further class is a variant, its row, and its place among `CLASSES`.
@@ -76,6 +104,8 @@ pub(crate) fn row_of(class: Class) -> Row
     ensures task { result.task.now ≡ (row_of class).task }
     ensures source { result.is_source ≡ (row_of class).is_source }
     ensures fields { result.fields.now ≡ (row_of class).fields }
+    ensures shared { result.shared ≡ (row_of class).shared }
+    ensures task_fields { result.task_fields.now ≡ (row_of class).task_fields }
 {
     match class {
         Class::FileStreamSource => Row {
@@ -85,6 +115,13 @@ pub(crate) fn row_of(class: Class) -> Row
             task: "FileStreamSourceTask",
             is_source: true,
             fields: &[Field::Feed, Field::Topic],
+            shared: None,
+            task_fields: &[
+                TaskField::BatchSize,
+                TaskField::Whole(Field::Feed),
+                TaskField::TaskClass,
+                TaskField::Whole(Field::Topic),
+            ],
         },
         Class::FileSetSource => Row {
             name: "FileSetSource",
@@ -93,6 +130,13 @@ pub(crate) fn row_of(class: Class) -> Row
             task: "FileSetSourceTask",
             is_source: true,
             fields: &[Field::Feeds, Field::Topic],
+            shared: Some(Field::Feeds),
+            task_fields: &[
+                TaskField::BatchSize,
+                TaskField::Group(Field::Feeds),
+                TaskField::TaskClass,
+                TaskField::Whole(Field::Topic),
+            ],
         },
         Class::SequenceSource => Row {
             name: "SequenceSource",
@@ -101,6 +145,14 @@ pub(crate) fn row_of(class: Class) -> Row
             task: "SequenceSourceTask",
             is_source: true,
             fields: &[Field::Sequences, Field::Count, Field::Topic],
+            shared: Some(Field::Sequences),
+            task_fields: &[
+                TaskField::BatchSize,
+                TaskField::Whole(Field::Count),
+                TaskField::Group(Field::Sequences),
+                TaskField::TaskClass,
+                TaskField::Whole(Field::Topic),
+            ],
         },
         Class::FileStreamSink => Row {
             name: "FileStreamSink",
@@ -109,6 +161,12 @@ pub(crate) fn row_of(class: Class) -> Row
             task: "FileStreamSinkTask",
             is_source: false,
             fields: &[Field::Outlet, Field::Topics],
+            shared: Some(Field::Topics),
+            task_fields: &[
+                TaskField::Whole(Field::Outlet),
+                TaskField::TaskClass,
+                TaskField::Group(Field::Topics),
+            ],
         },
     }
 }

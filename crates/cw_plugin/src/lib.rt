@@ -7,13 +7,16 @@
 
 mod check;
 mod class;
+mod configs;
 mod fault;
 mod lists;
 mod numbers;
+mod shares;
 mod task;
 
 pub use check::check_config;
 pub use class::Class;
+pub use configs::task_configs;
 pub use fault::PluginFault;
 pub use task::{TaskSpec, task_of};
 
