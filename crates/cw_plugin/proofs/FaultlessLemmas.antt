@@ -2,6 +2,7 @@
 use Rattle.std.proofs.Common.{◌≡◌, ℕ, List, [], ◌∷◌, Bool, true, false, not, cond, Option, Some, None, option_map, IsOk, codes, option_and_then, refl, sym, ap, ◌∙◌}
 use Rattle.std.specs.List.{list_any, AllByRecursion}
 use Rattle.std.specs.Option.{is_none}
+use Rattle.std.specs.Result.{is_ok}
 use Rattle.std.proofs.lemmas.Bool.{both_ways, or_parts, not-false}
 use Rattle.cw_json.specs.Pairs.{value_in}
 use Rattle.cw_plugin.specs.declared.class.Class.{Class}
@@ -113,3 +114,11 @@ source_numbers props row source e =
         = sym (ap (λ b. cond (not b) (bad_key is_bad_number props row.fields) (cond (is_none (batch_size props)) (Some (codes "batch.size")) (bad_key is_bad_number props row.fields))) source) ∙ most.1 in
     let size = step_missing (is_none (batch_size props)) (codes "batch.size") _ rest in
     (some_of (batch_size props) size.0, size.1)
+
+-- properties of a class whose row finds no fault have none
+pub faultless_from : (props : Props) (text : List ℕ) (class : Class) → value_in props (codes "connector.class") ≡ Some text → class_of text ≡ Some class → fault_of_class is_name props (row_of class) ≡ None → IsFaultless props
+unfolding IsFaultless
+faultless_from props text class called own none =
+    ap (λ o. is_ok (class_called is_name props o)) called
+    ∙ ap (λ o. is_ok (class_unless is_name props o)) own
+    ∙ ap (λ o. is_ok (unless_faulty class o)) none

@@ -1,5 +1,6 @@
 //! Whether a connector's config may be taken.
-ghost use Rattle.std.specs.Prelude.{◌≡◌, IfOk, OnOk, option_map, not};
+ghost use Rattle.std.specs.Prelude.{◌≡◌, true, IfOk, OnOk, option_map, not};
+ghost use Rattle.std.specs.Bool.{OnTrue};
 ghost use Rattle.std.specs.List.{list_any};
 ghost use Rattle.cw_json.specs.Pairs.{value_in};
 ghost use Rattle.cw_plugin.specs.Classes.{row_of, key_of};
@@ -79,16 +80,21 @@ fn bad_number(props: &Props, class: Class) -> Option<&'static str>
 }
 
 fn is_loaded(feeds: &[Name], text: &Text) -> bool
-    ensures { result ≡ is_among feeds.now text.now }
+    ensures among { result ≡ is_among feeds.now text.now }
+    ensures named { OnTrue result (is_name text.now ≡ true) }
 {
-    feeds
-        .iter()
-        .any(|feed| feed.as_bytes() == text.as_str().as_bytes())
+    for feed in feeds {
+        if feed.as_bytes() == text.as_str().as_bytes() {
+            return true;
+        }
+    }
+    false
 }
 
 // The first of some feeds that isn't loaded.
 fn first_unloaded(feeds: &[Name], texts: &[Text]) -> Result<Option<Text>, AllocError>
-    ensures { IfOk result (λ feed. feed ≡ first_failing (is_among feeds.now) texts.now) }
+    ensures first { IfOk result (λ feed. feed ≡ first_failing (is_among feeds.now) texts.now) }
+    ensures named { IfOk result (λ feed. feed ≡ None → first_failing is_name texts.now ≡ None) }
 {
     for text in texts {
         if !is_loaded(feeds, text) {
@@ -105,7 +111,8 @@ fn feed_lacking_in(
     field: Field,
     text: &Text,
 ) -> Result<Option<Text>, AllocError>
-    ensures { IfOk result (λ feed. feed ≡ feed_lacking_in (is_among feeds.now) field text.now) }
+    ensures first { IfOk result (λ feed. feed ≡ feed_lacking_in (is_among feeds.now) field text.now) }
+    ensures named { IfOk result (λ feed. feed ≡ None → feed_lacking_in is_name field text.now ≡ None) }
 {
     match field {
         Field::Feed => {
@@ -129,7 +136,8 @@ fn value_feed_lacking(
     props: &Props,
     field: Field,
 ) -> Result<Option<Text>, AllocError>
-    ensures { IfOk result (λ feed. feed ≡ value_feed_lacking (is_among feeds.now) field (value_in props.now (key_of field))) }
+    ensures first { IfOk result (λ feed. feed ≡ value_feed_lacking (is_among feeds.now) field (value_in props.now (key_of field))) }
+    ensures named { IfOk result (λ feed. feed ≡ None → value_feed_lacking is_name field (value_in props.now (key_of field)) ≡ None) }
 {
     match props.get(field.key()) {
         Some(text) => feed_lacking_in(alloc, feeds, field, text),
@@ -144,7 +152,8 @@ fn feed_lacking(
     props: &Props,
     fields: &[Field],
 ) -> Result<Option<Text>, AllocError>
-    ensures { IfOk result (λ feed. feed ≡ feed_lacking (is_among feeds.now) props.now fields.now) }
+    ensures first { IfOk result (λ feed. feed ≡ feed_lacking (is_among feeds.now) props.now fields.now) }
+    ensures named { IfOk result (λ feed. feed ≡ None → feed_lacking is_name props.now fields.now ≡ None) }
 {
     for field in fields {
         if let Some(feed) = value_feed_lacking(alloc, feeds, props, *field)? {
@@ -222,7 +231,8 @@ fn fault_of_class(
     feeds: &[Name],
     class: Class,
 ) -> Result<Option<PluginFault>, AllocError>
-    ensures { IfOk result (λ fault. fault ≡ fault_of_class (is_among feeds.now) props.now (row_of class)) }
+    ensures first { IfOk result (λ fault. fault ≡ fault_of_class (is_among feeds.now) props.now (row_of class)) }
+    ensures named { IfOk result (λ fault. fault ≡ None → fault_of_class is_name props.now (row_of class) ≡ None) }
 {
     let fields = row_of(class).fields;
     if let Some(key) = missing_key(props, fields) {
