@@ -111,7 +111,7 @@ pub source_numbers : (props : Props) (row : ClassRow) → row.is_source ≡ true
 source_numbers props row source e =
     let most = step_missing (is_none (tasks_max props)) (codes "tasks.max") _ e in
     let rest : cond (is_none (batch_size props)) (Some (codes "batch.size")) (bad_key is_bad_number props row.fields) ≡ None
-        = sym (ap (λ b. cond (not b) (bad_key is_bad_number props row.fields) (cond (is_none (batch_size props)) (Some (codes "batch.size")) (bad_key is_bad_number props row.fields))) source) ∙ most.1 in
+    = sym (ap (λ b. cond (not b) (bad_key is_bad_number props row.fields) (cond (is_none (batch_size props)) (Some (codes "batch.size")) (bad_key is_bad_number props row.fields))) source) ∙ most.1 in
     let size = step_missing (is_none (batch_size props)) (codes "batch.size") _ rest in
     (some_of (batch_size props) size.0, size.1)
 

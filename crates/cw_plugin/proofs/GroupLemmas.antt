@@ -43,7 +43,7 @@ unrepeated_parts (x ∷ front) back e =
       in_front = not_in_front x front both.0 rest.in_front;
       in_back = rest.in_back;
       apart = λ y front_has back_has. elim (or_cases (bytes_eq x y) (is_in y front) front_has) [
-          inl is ↦ both_ways (is_in x back) both.1 (subst (λ z. is_in z back ≡ true) (sym (bytes_are x y is)) back_has)
+        | inl is ↦ both_ways (is_in x back) both.1 (subst (λ z. is_in z back ≡ true) (sym (bytes_are x y is)) back_has)
         | inr later ↦ rest.apart y later back_has
       ];
     }
@@ -100,21 +100,26 @@ groups_law P (suc count) least more es least_some room unrepeated pass =
     let room' : least + (count * least + more) ≤ length es = omega (arith, room) in
     let parts = unrepeated_parts (take size es) (drop size es) (ap has_repeat split ∙ unrepeated) in
     let passes = each_append P (take size es) (drop size es) (subst (Each P) (sym split) pass) in
-    let rest = groups_law P count least (more - 1) (drop size es) least_some (omega (arith, length-drop size es)) parts.in_back passes.1 in
-    ((record {
-        some = omega (arith, length-take size es);
-        unrepeated = parts.in_front;
-        pass = passes.0;
-        inside = λ e has. subst (λ them. is_in e them ≡ true) split (in_first_part e (take size es) (drop size es) has);
-      },
-      each_weaker (IsGroup P (drop size es)) (IsGroup P es) (λ g group. record {
-        some = group.some;
-        unrepeated = group.unrepeated;
-        pass = group.pass;
-        inside = λ e has. subst (λ them. is_in e them ≡ true) split (in_part e (take size es) (drop size es) (group.inside e has));
-      }) (groups count least (more - 1) (drop size es)) rest.0),
-     (each_weaker (IsGroup P (drop size es)) (Apart (take size es)) (λ g group e in_first in_later. parts.apart e in_first (group.inside e in_later)) (groups count least (more - 1) (drop size es)) rest.0,
-      rest.1))
+    let rest = groups_law P count least (more - 1) (drop size es) least_some (omega (arith, length-drop size es)) parts.in_back passes.1 in (
+      (
+        record {
+          some = omega (arith, length-take size es);
+          unrepeated = parts.in_front;
+          pass = passes.0;
+          inside = λ e has. subst (λ them. is_in e them ≡ true) split (in_first_part e (take size es) (drop size es) has);
+        },
+        each_weaker (IsGroup P (drop size es)) (IsGroup P es) (λ g group. record {
+          some = group.some;
+          unrepeated = group.unrepeated;
+          pass = group.pass;
+          inside = λ e has. subst (λ them. is_in e them ≡ true) split (in_part e (take size es) (drop size es) (group.inside e has));
+        }) (groups count least (more - 1) (drop size es)) rest.0,
+      ),
+      (
+        each_weaker (IsGroup P (drop size es)) (Apart (take size es)) (λ g group e in_first in_later. parts.apart e in_first (group.inside e in_later)) (groups count least (more - 1) (drop size es)) rest.0,
+        rest.1,
+      ),
+    )
 
 abbrev pub HasNoComma : List ℕ → Type 0
 HasNoComma e = Each (λ b. (b == 44) ≡ false) e
@@ -146,18 +151,18 @@ kept_not_in e p [] new = refl
 kept_not_in e p (x ∷ es) new =
     let both = or_parts (bytes_eq x e) (is_in e es) new in
     kept (p x) (kept_not_in e p es both.1) where
-  kept : (b : Bool) → is_in e (filter p es) ≡ false → is_in e (cond b (x ∷ filter p es) (filter p es)) ≡ false
-  kept true rest = or_from (bytes_eq x e) (is_in e (filter p es)) (or_parts (bytes_eq x e) (is_in e es) new).0 rest
-  kept false rest = rest
+      kept : (b : Bool) → is_in e (filter p es) ≡ false → is_in e (cond b (x ∷ filter p es) (filter p es)) ≡ false
+      kept true rest = or_from (bytes_eq x e) (is_in e (filter p es)) (or_parts (bytes_eq x e) (is_in e es) new).0 rest
+      kept false rest = rest
 
 kept_unrepeated : (p : List ℕ → Bool) (es : Texts) → has_repeat es ≡ false → has_repeat (filter p es) ≡ false
 kept_unrepeated p [] e = refl
 kept_unrepeated p (x ∷ es) e =
     let here = fresh (is_in x es) (has_repeat es) e in
     kept (p x) (kept_not_in x p es here.0) (kept_unrepeated p es here.1) where
-  kept : (b : Bool) → is_in x (filter p es) ≡ false → has_repeat (filter p es) ≡ false → has_repeat (cond b (x ∷ filter p es) (filter p es)) ≡ false
-  kept true new rest = not_in_front x (filter p es) new rest
-  kept false new rest = rest
+      kept : (b : Bool) → is_in x (filter p es) ≡ false → has_repeat (filter p es) ≡ false → has_repeat (cond b (x ∷ filter p es) (filter p es)) ≡ false
+      kept true new rest = not_in_front x (filter p es) new rest
+      kept false new rest = rest
 
 others_not_in : (e : List ℕ) (es : Texts) → is_in e (filter (λ x. not (bytes_eq x e)) es) ≡ false
 others_not_in e [] = refl
@@ -200,8 +205,8 @@ digits_clean [] e = tt
 digits_clean (c ∷ cs) e =
     let both = and_parts (is_ascii_digit c) (list_all is_ascii_digit cs) e in
     (digit_clean c both.0, digits_clean cs both.1) where
-  digit_clean : (c : ℕ) → is_ascii_digit c ≡ true → (c == 44) ≡ false
-  digit_clean c e = grind (arith, nat_tests)
+      digit_clean : (c : ℕ) → is_ascii_digit c ≡ true → (c == 44) ≡ false
+      digit_clean c e = grind (arith, nat_tests)
 
 pub decimal_clean : (n : ℕ) → n < 1000 → HasNoComma (decimal n)
 decimal_clean n small = digits_clean (decimal n) (digits_decimal own n (omega arith))

@@ -52,7 +52,7 @@ tasks_of_groups connector field es config_of gs task groups_are groups_apart = r
   apart = pairs_map (λ a b. ShareNone (parts_at connector a) (parts_at connector b)) config_of (map (join_with_byte 44) gs)
       (pairs_map (λ s t. ShareNone (parts_at connector (config_of s)) (parts_at connector (config_of t))) (join_with_byte 44) gs
       (pairs_weaker (IsGroup (Names connector field) es) Apart (λ g h. ShareNone (parts_at connector (config_of (join_with_byte 44 g))) (parts_at connector (config_of (join_with_byte 44 h))))
-        (λ g h g_group h_group apart. share_none connector field g h (config_of (join_with_byte 44 g)) (config_of (join_with_byte 44 h)) (task g g_group) (task h h_group) apart) gs groups_are groups_apart));
+      (λ g h g_group h_group apart. share_none connector field g h (config_of (join_with_byte 44 g)) (config_of (join_with_byte 44 h)) (task g g_group) (task h h_group) apart) gs groups_are groups_apart));
 }
 
 -- the tasks of elements that are shared out
@@ -63,12 +63,12 @@ tasks_of_shares : (connector : List ℕ) (field : Field) (es : Texts) (config_of
 tasks_of_shares connector field es config_of most unrepeated names task =
     let size : ℕ = min (length es) most in
     elim (cases_eq size 0) [
-      inl none ↦ subst (λ gs. AreTasks connector (map config_of (map (join_with_byte 44) gs))) (sym (groups_none size (length es / size) (length es % size) es none)) (record { each = tt; apart = tt })
-    | inr some ↦
-        let positive : 0 < size = omega (arith, some) in
-        let least_some : 1 ≤ length es / size = le-div 1 (length es) size positive (omega arith) in
-        let law = groups_law (Names connector field) size (length es / size) (length es % size) es (omega (arith, least_some)) (omega (arith, positive)) unrepeated names in
-        tasks_of_groups connector field es config_of (groups size (length es / size) (length es % size) es) task law.0 law.1
+      | inl none ↦ subst (λ gs. AreTasks connector (map config_of (map (join_with_byte 44) gs))) (sym (groups_none size (length es / size) (length es % size) es none)) (record { each = tt; apart = tt })
+      | inr some ↦
+          let positive : 0 < size = omega (arith, some) in
+          let least_some : 1 ≤ length es / size = le-div 1 (length es) size positive (omega arith) in
+          let law = groups_law (Names connector field) size (length es / size) (length es % size) es (omega (arith, least_some)) (omega (arith, positive)) unrepeated names in
+          tasks_of_groups connector field es config_of (groups size (length es / size) (length es % size) es) task law.0 law.1
     ]
 
 parts_of_pieces : (connector : List ℕ) (field : Field) (text : List ℕ) (es : Texts) (parts : List PartKey) → pieces field text ≡ es → has_repeat es ≡ false → parts_behind [] connector field es ≡ Some parts → parts_of connector field text ≡ Some parts
@@ -169,7 +169,7 @@ set_law connector props good =
     let all : Each (Names connector Feeds) es = each_once (Names connector Feeds) (elements files.0.0) (feed_names connector (elements files.0.0) (elements_clean files.0.0) (loaded_all is_name (elements files.0.0) loaded.0)) in
     of_value connector props (row_of FileSetSource) (λ text. parted_up_to (share_count props) (shared_in Feeds text)) (value_in props (codes "files")) files.0.0 files.0.1
     (tasks_of_shares connector Feeds es (task_config props (row_of FileSetSource)) (share_count props) (once_unrepeated (elements files.0.0)) all
-      (λ g group. set_task connector topic.0.0 es g props numbers.0.0 topic.0.1 (topic_named topic.0.0 topics.0) numbers.0.1 group))
+    (λ g group. set_task connector topic.0.0 es g props numbers.0.0 topic.0.1 (topic_named topic.0.0 topics.0) numbers.0.1 group))
 
 -- ---- SequenceSource
 
@@ -216,7 +216,7 @@ sequence_law connector props good =
     of_value connector props (row_of SequenceSource) (λ text. parted_up_to (share_count props) (shared_in Sequences text)) (value_in props (codes "partitions")) partitions.0.0 partitions.0.1
     (subst (λ m. AreTasks connector (map (task_config props (row_of SequenceSource)) (parted_up_to (share_count props) (map decimal (range_with_len 0 (unwrap_or m 0)))))) (sym all.1)
     (tasks_of_shares connector Sequences es (task_config props (row_of SequenceSource)) (share_count props) (numbers_unrepeated 0 all.0 (omega (arith, few))) (each_number (Names connector Sequences) 0 all.0 (omega (arith, few)) (number_names connector))
-      (λ g group. sequence_task connector topic.0.0 number.0.0 es g props numbers.0.0 each.0 topic.0.1 number.0.1 (topic_named topic.0.0 topics.0) each.1 numbers.0.1 group)))
+    (λ g group. sequence_task connector topic.0.0 number.0.0 es g props numbers.0.0 each.0 topic.0.1 number.0.1 (topic_named topic.0.0 topics.0) each.1 numbers.0.1 group)))
 
 -- ---- FileStreamSink
 
@@ -252,7 +252,7 @@ sink_law connector props good =
     let all : Each (Names connector Topics) es = each_once (Names connector Topics) (elements topics.0.0) (topic_names connector (elements topics.0.0) (elements_clean topics.0.0) (all_named (elements topics.0.0) all_good.0)) in
     of_value connector props (row_of FileStreamSink) (λ text. parted_up_to (share_count props) (shared_in Topics text)) (value_in props (codes "topics")) topics.0.0 topics.0.1
     (tasks_of_shares connector Topics es (task_config props (row_of FileStreamSink)) (share_count props) (once_unrepeated (elements topics.0.0)) all
-      (λ g group. sink_task connector file.0.0 es g props file.0.1 (topic_named file.0.0 names.0) group))
+    (λ g group. sink_task connector file.0.0 es g props file.0.1 (topic_named file.0.0 names.0) group))
 
 -- ---- each class
 

@@ -36,7 +36,7 @@ known found e x false is old = refl
 
 other_way : (x e : List ℕ) → bytes_eq x e ≡ false → bytes_eq e x ≡ false
 other_way x e differ = elim (cases_Bool (bytes_eq e x)) [
-    inl alike ↦ absurd (both_ways (bytes_eq x e) differ (subst (λ y. bytes_eq y e ≡ true) (bytes_are e x alike) (bytes_same e)))
+  | inl alike ↦ absurd (both_ways (bytes_eq x e) differ (subst (λ y. bytes_eq y e ≡ true) (bytes_are e x alike) (bytes_same e)))
   | inr apart ↦ apart
 ]
 
@@ -48,9 +48,9 @@ behind found e x true is =
 behind found e x false is =
     let none : list_any (λ y. bytes_eq y x) (e ∷ []) ≡ false = or_from (bytes_eq e x) false (other_way x e is) refl in
     sym (ap not (list_any-append (λ y. bytes_eq y x) found (e ∷ []) ∙ or_none (list_any (λ y. bytes_eq y x) found) _ none)) where
-  or_none : (a b : Bool) → b ≡ false → (a || b) ≡ a
-  or_none true b e = refl
-  or_none false b e = e
+      or_none : (a b : Bool) → b ≡ false → (a || b) ≡ a
+      or_none true b e = refl
+      or_none false b e = e
 
 -- one more element is taken in
 once_at : (found : Texts) (e : List ℕ) (ys : Texts) (b : Bool) → list_any (λ y. bytes_eq y e) found ≡ b
@@ -87,7 +87,7 @@ once_done found texts i past is =
 -- the size of a group
 pub size_is : (index more : ℕ) → from_bool (nat_lt index more) ≡ min (more - index) 1
 size_is index more = elim (cases_lt index more) [
-    inl below ↦ ap from_bool (lt-ltb index more below) ∙ omega arith
+  | inl below ↦ ap from_bool (lt-ltb index more below) ∙ omega arith
   | inr above ↦ ap from_bool (le-ltb index more above) ∙ omega arith
 ]
 
@@ -126,17 +126,18 @@ parted_next count index least more size rest front next before after target shar
     let fits = left_next (count - index) (count - (index + 1)) least (more - index) size (length rest) one left sized' in
     let all : length next ≡ length rest - size = ap length is_next ∙ length-drop size rest in
     let cut : groups (count - index) least (more - index) rest ≡ front ∷ groups (count - (index + 1)) least (more - (index + 1)) next
-        = groups_next (count - index) (count - (index + 1)) least (more - index) rest one
-          ∙ ap (λ n. take n rest ∷ groups (count - (index + 1)) least ((more - index) - 1) (drop n rest)) (sym sized')
-          ∙ ap (λ m. take size rest ∷ groups (count - (index + 1)) least m (drop size rest)) (sym fewer)
-          ∙ ap (λ them. them ∷ groups (count - (index + 1)) least (more - (index + 1)) (drop size rest)) (sym is_front)
-          ∙ ap (λ them. front ∷ groups (count - (index + 1)) least (more - (index + 1)) them) (sym is_next) in
-    (ap (λ m. (count - (index + 1)) * least + m) fewer ∙ fits.1 ∙ sym all,
-     ap (λ them. them ++ map (join_with_byte 44) (groups (count - (index + 1)) least (more - (index + 1)) next)) is_after
-     ∙ append_assoc before (share ∷ []) _
-     ∙ ap (λ t. before ++ t ∷ map (join_with_byte 44) (groups (count - (index + 1)) least (more - (index + 1)) next)) is_share
-     ∙ ap (λ them. before ++ map (join_with_byte 44) them) (sym cut)
-     ∙ made)
+    = groups_next (count - index) (count - (index + 1)) least (more - index) rest one
+    ∙ ap (λ n. take n rest ∷ groups (count - (index + 1)) least ((more - index) - 1) (drop n rest)) (sym sized')
+    ∙ ap (λ m. take size rest ∷ groups (count - (index + 1)) least m (drop size rest)) (sym fewer)
+    ∙ ap (λ them. them ∷ groups (count - (index + 1)) least (more - (index + 1)) (drop size rest)) (sym is_front)
+    ∙ ap (λ them. front ∷ groups (count - (index + 1)) least (more - (index + 1)) them) (sym is_next) in (
+      ap (λ m. (count - (index + 1)) * least + m) fewer ∙ fits.1 ∙ sym all,
+      ap (λ them. them ++ map (join_with_byte 44) (groups (count - (index + 1)) least (more - (index + 1)) next)) is_after
+          ∙ append_assoc before (share ∷ []) _
+          ∙ ap (λ t. before ++ t ∷ map (join_with_byte 44) (groups (count - (index + 1)) least (more - (index + 1)) next)) is_share
+          ∙ ap (λ them. before ++ map (join_with_byte 44) them) (sym cut)
+          ∙ made,
+    )
 
 pub parted_done : (count index least more : ℕ) (rest made target : Texts) → count ≤ index → made ++ map (join_with_byte 44) (groups (count - index) least (more - index) rest) ≡ target → made ≡ target
 parted_done count index least more rest made target past is =

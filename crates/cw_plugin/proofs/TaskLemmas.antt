@@ -75,13 +75,16 @@ pub parts_there : (connector : List ℕ) (field : Field) (found : List PartKey) 
 parts_there connector field found [] all = ([], ap Some (sym (append-nil found)), record { origin = λ p inside. absurd (omega (arith, inside.1)) })
 parts_there connector field found (e ∷ es) all =
     let here = the_part (part_of connector field e) all.0 in
-    let rest = parts_there connector field (found ++ here.0 ∷ []) es all.1 in
-    (here.0 ∷ rest.0,
-     ap (λ o. option_and_then (λ part. parts_behind (found ++ part ∷ []) connector field es) o) here.1 ∙ rest.1 ∙ ap Some (append_assoc found (here.0 ∷ []) rest.0),
-     record { origin = λ p inside. elim (first_or_later here.0 p rest.0 inside) [
-         inl is ↦ (e, ap (λ b. b || is_in e es) (bytes_same e), here.1 ∙ ap Some is)
-       | inr later ↦ let it = rest.2.origin p later in (it.0, or_right (bytes_eq e it.0) (is_in it.0 es) it.1, it.2)
-     ] })
+    let rest = parts_there connector field (found ++ here.0 ∷ []) es all.1 in (
+      here.0 ∷ rest.0,
+      ap (λ o. option_and_then (λ part. parts_behind (found ++ part ∷ []) connector field es) o) here.1 ∙ rest.1 ∙ ap Some (append_assoc found (here.0 ∷ []) rest.0),
+      record {
+        origin = λ p inside. elim (first_or_later here.0 p rest.0 inside) [
+          | inl is ↦ (e, ap (λ b. b || is_in e es) (bytes_same e), here.1 ∙ ap Some is)
+          | inr later ↦ let it = rest.2.origin p later in (it.0, or_right (bytes_eq e it.0) (is_in it.0 es) it.1, it.2)
+        ];
+      },
+    )
 
 named : (connector e : List ℕ) (b : Bool) (make : List ℕ → PartKey) (p : PartKey) → cond b (Some (make e)) None ≡ Some p → make e ≡ p
 named connector e true make p is = cc

@@ -1,8 +1,8 @@
 //! Configs and tasks from tables of an outside model, with ample memory.
 mod tables;
 
-use crate::{Class, PluginFault, TaskSpec, check_config, task_of};
-use cw_json::{Props, Text, read_props};
+use crate::{Class, PluginFault, TaskSpec, check_config, task_configs, task_of};
+use cw_json::{Props, Text, read_props, text_of};
 use cw_types::{Name, PartKey};
 use std::test::Fail;
 
@@ -119,6 +119,49 @@ fn task_answer(rt: &HostRuntime, connector: &str, text: &str) -> Result<Vec<u8>,
     }
 }
 
+fn loaded_feeds(rt: &HostRuntime) -> Result<Vec<Name>, Fail> {
+    let mut feeds = Vec::new(rt.alloc());
+    for feed in tables::FEEDS.lines() {
+        feeds.push(name_of(rt, feed)?)?;
+    }
+    Ok(feeds)
+}
+
+fn configs_of(rt: &HostRuntime, text: &str) -> Result<Vec<Props>, Fail> {
+    let props = props_of(rt, text)?;
+    let feeds = loaded_feeds(rt)?;
+    match check_config(rt.alloc(), &props, feeds.as_slice()) {
+        Ok(_) => Ok(task_configs(rt.alloc(), &props)?),
+        Err(_) => Err("a config without a fault".into()),
+    }
+}
+
+// The properties of each task, a space before each.
+fn configs_text(rt: &HostRuntime, configs: &[Props]) -> Result<Vec<u8>, Fail> {
+    let mut text = Vec::new(rt.alloc());
+    for config in configs {
+        let next = text_of(rt.alloc(), config)?;
+        text = with_word(text, next.as_slice())?;
+    }
+    Ok(text)
+}
+
+// A config with a list, of a thousand topics or of one a thousand times.
+fn thousand_topics(rt: &HostRuntime, differ: bool) -> Result<String, Fail> {
+    let mut text = String::from_str(
+        rt.alloc(),
+        "{\"connector.class\":\"FileStreamSink\",\"file\":\"out\",",
+    )?;
+    text.push_str("\"tasks.max\":\"999\",\"topics\":\"t0")?;
+    for index in 1..1000u32 {
+        let number = if differ { index } else { 0 };
+        let topic = format!(in rt.alloc(); ",t{number}")?;
+        text.push_str(topic.as_str())?;
+    }
+    text.push_str("\"}")?;
+    Ok(text)
+}
+
 #[test]
 fn configs_are_their_classes_or_first_refusals(rt: HostRuntime) -> Result<(), Fail> {
     let mut count = 0u32;
@@ -130,7 +173,7 @@ fn configs_are_their_classes_or_first_refusals(rt: HostRuntime) -> Result<(), Fa
         assert_eq!(rt; found.as_slice(), wanted.as_bytes(), "{feeds} {text}");
         count = count.saturating_add(1);
     }
-    assert_eq!(rt; count, 98);
+    assert_eq!(rt; count, 99);
     Ok(())
 }
 
@@ -146,5 +189,49 @@ fn properties_are_their_tasks(rt: HostRuntime) -> Result<(), Fail> {
         count = count.saturating_add(1);
     }
     assert_eq!(rt; count, 94);
+    Ok(())
+}
+
+#[test]
+fn configs_have_their_tasks(rt: HostRuntime) -> Result<(), Fail> {
+    let mut count = 0u32;
+    for line in tables::CONFIG_TASKS.lines() {
+        let Some((text, wanted)) = line.split_once(" =>") else {
+            return Err("a line of the table".into());
+        };
+        let configs = configs_of(&rt, text)?;
+        let found = configs_text(&rt, configs.as_slice())?;
+        assert_eq!(rt; found.as_slice(), wanted.as_bytes(), "{text}");
+        count = count.saturating_add(1);
+    }
+    assert_eq!(rt; count, 74);
+    Ok(())
+}
+
+#[test]
+fn a_thousand_elements_are_parted_and_a_repeat_counts_once(rt: HostRuntime) -> Result<(), Fail> {
+    let text = thousand_topics(&rt, true)?;
+    let configs = configs_of(&rt, text.as_str())?;
+    assert_eq!(rt; configs.len(), 999);
+    let (Some(first), Some(last)) = (configs.first(), configs.last()) else {
+        return Err("no task".into());
+    };
+    let first = text_of(rt.alloc(), first)?;
+    let last = text_of(rt.alloc(), last)?;
+    assert_eq!(rt;
+        first.as_slice(),
+        b"{\"file\":\"out\",\"task.class\":\"FileStreamSinkTask\",\"topics\":\"t0,t1\"}".as_slice()
+    );
+    assert_eq!(rt;
+        last.as_slice(),
+        b"{\"file\":\"out\",\"task.class\":\"FileStreamSinkTask\",\"topics\":\"t999\"}".as_slice()
+    );
+    let text = thousand_topics(&rt, false)?;
+    let configs = configs_of(&rt, text.as_str())?;
+    let found = configs_text(&rt, configs.as_slice())?;
+    assert_eq!(rt;
+        found.as_slice(),
+        b" {\"file\":\"out\",\"task.class\":\"FileStreamSinkTask\",\"topics\":\"t0\"}".as_slice()
+    );
     Ok(())
 }

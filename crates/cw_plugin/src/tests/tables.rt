@@ -1,4 +1,5 @@
-//! Configs with their classes or refusals, and tasks' properties with their tasks, made by a model outside this project.
+//! Configs with their classes or refusals and with their tasks, and tasks' properties with what they stand for, made by a model
+//! outside this project.
 
 // `loaded` where the feeds `orders`, `x` and `y` are loaded, or `none`; the config; the class, or the refusal with what it names.
 pub const CONFIGS: &str = r##"none | {} => NoClass
@@ -36,6 +37,7 @@ loaded | {"connector.class":"FileSetSource","files":"orders,x,y","tasks.max":"0"
 loaded | {"connector.class":"FileSetSource","files":"orders,x,y","tasks.max":"1001","topic":"t"} => BadInt tasks.max
 loaded | {"connector.class":"FileSetSource","files":"orders,x,y","tasks.max":"","topic":"t"} => BadInt tasks.max
 loaded | {"connector.class":"FileStreamSource","file":"orders","tasks.max":"01","topic":"t"} => BadInt tasks.max
+loaded | {"connector.class":"FileStreamSource","file":"orders","tasks.max":"007","topic":"t"} => BadInt tasks.max
 none | {"connector.class":"FileStreamSink","file":"out","tasks.max":"+1","topics":"t,u"} => BadInt tasks.max
 loaded | {"connector.class":"FileStreamSink","file":"out","tasks.max":" 1","topics":"t,u"} => BadInt tasks.max
 loaded | {"connector.class":"FileStreamSource","file":"orders","tasks.max":"1 ","topic":"t"} => BadInt tasks.max
@@ -196,4 +198,103 @@ a | {"count":"00","partitions":"0,2","task.class":"SequenceSourceTask","topic":"
 a-1 | {"count":"x","file":"orders","files":"","partitions":"x","task.class":"FileStreamSourceTask","topic":"t","topics":""} => FileStreamSource 2000 0 topic t file orders
 a | {"file":"out","task.class":"FileStreamSinkTask","topic":"a b","topics":"u,t"} => FileStreamSink 2000 0 file out sink u sink t
 a-1 | {"file":"","task.class":"FileStreamSinkTask","topics":"u,t"} => none
+"##;
+
+// Feeds, a line each.
+pub const FEEDS: &str = r##"orders
+a
+b
+c
+d
+e
+f
+g
+p
+q
+r
+s
+t
+u
+v
+x
+y
+z
+"##;
+
+// A config without a fault where those feeds are loaded; the properties of each of its tasks.
+pub const CONFIG_TASKS: &str =
+    r##"{"connector.class":"FileSetSource","files":"x,y,z","tasks.max":"2","topic":"t"} => {"files":"x,y","task.class":"FileSetSourceTask","topic":"t"} {"files":"z","task.class":"FileSetSourceTask","topic":"t"}
+{"connector.class":"FileStreamSource","file":"orders","topic":"t"} => {"file":"orders","task.class":"FileStreamSourceTask","topic":"t"}
+{"batch.size":"7","connector.class":"FileStreamSource","file":"orders","topic":"t"} => {"batch.size":"7","file":"orders","task.class":"FileStreamSourceTask","topic":"t"}
+{"connector.class":"FileStreamSource","file":"orders","tasks.max":"1","topic":"t"} => {"file":"orders","task.class":"FileStreamSourceTask","topic":"t"}
+{"connector.class":"FileStreamSource","file":"orders","tasks.max":"2","topic":"t"} => {"file":"orders","task.class":"FileStreamSourceTask","topic":"t"}
+{"batch.size":"7","connector.class":"FileStreamSource","file":"orders","tasks.max":"2","topic":"t"} => {"batch.size":"7","file":"orders","task.class":"FileStreamSourceTask","topic":"t"}
+{"connector.class":"FileStreamSource","file":"orders","tasks.max":"3","topic":"t"} => {"file":"orders","task.class":"FileStreamSourceTask","topic":"t"}
+{"connector.class":"FileStreamSource","file":"orders","tasks.max":"1000","topic":"t"} => {"file":"orders","task.class":"FileStreamSourceTask","topic":"t"}
+{"connector.class":"FileSetSource","files":"orders,x,y","topic":"t"} => {"files":"orders,x,y","task.class":"FileSetSourceTask","topic":"t"}
+{"batch.size":"7","connector.class":"FileSetSource","files":"orders,x,y","topic":"t"} => {"batch.size":"7","files":"orders,x,y","task.class":"FileSetSourceTask","topic":"t"}
+{"connector.class":"FileSetSource","files":"orders,x,y","tasks.max":"1","topic":"t"} => {"files":"orders,x,y","task.class":"FileSetSourceTask","topic":"t"}
+{"connector.class":"FileSetSource","files":"orders,x,y","tasks.max":"2","topic":"t"} => {"files":"orders,x","task.class":"FileSetSourceTask","topic":"t"} {"files":"y","task.class":"FileSetSourceTask","topic":"t"}
+{"batch.size":"7","connector.class":"FileSetSource","files":"orders,x,y","tasks.max":"2","topic":"t"} => {"batch.size":"7","files":"orders,x","task.class":"FileSetSourceTask","topic":"t"} {"batch.size":"7","files":"y","task.class":"FileSetSourceTask","topic":"t"}
+{"connector.class":"FileSetSource","files":"orders,x,y","tasks.max":"3","topic":"t"} => {"files":"orders","task.class":"FileSetSourceTask","topic":"t"} {"files":"x","task.class":"FileSetSourceTask","topic":"t"} {"files":"y","task.class":"FileSetSourceTask","topic":"t"}
+{"connector.class":"FileSetSource","files":"orders,x,y","tasks.max":"1000","topic":"t"} => {"files":"orders","task.class":"FileSetSourceTask","topic":"t"} {"files":"x","task.class":"FileSetSourceTask","topic":"t"} {"files":"y","task.class":"FileSetSourceTask","topic":"t"}
+{"connector.class":"SequenceSource","count":"10","partitions":"3","topic":"t"} => {"count":"10","partitions":"0,1,2","task.class":"SequenceSourceTask","topic":"t"}
+{"batch.size":"7","connector.class":"SequenceSource","count":"10","partitions":"3","topic":"t"} => {"batch.size":"7","count":"10","partitions":"0,1,2","task.class":"SequenceSourceTask","topic":"t"}
+{"connector.class":"SequenceSource","count":"10","partitions":"3","tasks.max":"1","topic":"t"} => {"count":"10","partitions":"0,1,2","task.class":"SequenceSourceTask","topic":"t"}
+{"connector.class":"SequenceSource","count":"10","partitions":"3","tasks.max":"2","topic":"t"} => {"count":"10","partitions":"0,1","task.class":"SequenceSourceTask","topic":"t"} {"count":"10","partitions":"2","task.class":"SequenceSourceTask","topic":"t"}
+{"batch.size":"7","connector.class":"SequenceSource","count":"10","partitions":"3","tasks.max":"2","topic":"t"} => {"batch.size":"7","count":"10","partitions":"0,1","task.class":"SequenceSourceTask","topic":"t"} {"batch.size":"7","count":"10","partitions":"2","task.class":"SequenceSourceTask","topic":"t"}
+{"connector.class":"SequenceSource","count":"10","partitions":"3","tasks.max":"3","topic":"t"} => {"count":"10","partitions":"0","task.class":"SequenceSourceTask","topic":"t"} {"count":"10","partitions":"1","task.class":"SequenceSourceTask","topic":"t"} {"count":"10","partitions":"2","task.class":"SequenceSourceTask","topic":"t"}
+{"connector.class":"SequenceSource","count":"10","partitions":"3","tasks.max":"1000","topic":"t"} => {"count":"10","partitions":"0","task.class":"SequenceSourceTask","topic":"t"} {"count":"10","partitions":"1","task.class":"SequenceSourceTask","topic":"t"} {"count":"10","partitions":"2","task.class":"SequenceSourceTask","topic":"t"}
+{"connector.class":"FileStreamSink","file":"out","topics":"t,u"} => {"file":"out","task.class":"FileStreamSinkTask","topics":"t,u"}
+{"connector.class":"FileStreamSink","file":"out","tasks.max":"1","topics":"t,u"} => {"file":"out","task.class":"FileStreamSinkTask","topics":"t,u"}
+{"connector.class":"FileStreamSink","file":"out","tasks.max":"2","topics":"t,u"} => {"file":"out","task.class":"FileStreamSinkTask","topics":"t"} {"file":"out","task.class":"FileStreamSinkTask","topics":"u"}
+{"connector.class":"FileStreamSink","file":"out","tasks.max":"3","topics":"t,u"} => {"file":"out","task.class":"FileStreamSinkTask","topics":"t"} {"file":"out","task.class":"FileStreamSinkTask","topics":"u"}
+{"connector.class":"FileStreamSink","file":"out","tasks.max":"1000","topics":"t,u"} => {"file":"out","task.class":"FileStreamSinkTask","topics":"t"} {"file":"out","task.class":"FileStreamSinkTask","topics":"u"}
+{"batch.size":"7","connector.class":"FileStreamSink","file":"out","tasks.max":"2","topics":"e,d,c,b,a"} => {"file":"out","task.class":"FileStreamSinkTask","topics":"e,d,c"} {"file":"out","task.class":"FileStreamSinkTask","topics":"b,a"}
+{"connector.class":"org.apache.kafka.connect.file.FileStreamSourceConnector","file":"orders","name":"a","topic":"t","x":"y"} => {"file":"orders","task.class":"FileStreamSourceTask","topic":"t"}
+{"connector.class":"FileStreamSinkConnector","file":"out","name":"a","topics":"t,u"} => {"file":"out","task.class":"FileStreamSinkTask","topics":"t,u"}
+{"connector.class":"FileSetSource","files":"x","tasks.max":"2","topic":"t"} => {"files":"x","task.class":"FileSetSourceTask","topic":"t"}
+{"connector.class":"FileSetSource","files":"x","tasks.max":"3","topic":"t"} => {"files":"x","task.class":"FileSetSourceTask","topic":"t"}
+{"connector.class":"FileSetSource","files":"x","tasks.max":"4","topic":"t"} => {"files":"x","task.class":"FileSetSourceTask","topic":"t"}
+{"connector.class":"FileSetSource","files":"x","tasks.max":"5","topic":"t"} => {"files":"x","task.class":"FileSetSourceTask","topic":"t"}
+{"connector.class":"FileSetSource","files":"x,x,x","tasks.max":"2","topic":"t"} => {"files":"x","task.class":"FileSetSourceTask","topic":"t"}
+{"connector.class":"FileSetSource","files":"x,x,x","tasks.max":"3","topic":"t"} => {"files":"x","task.class":"FileSetSourceTask","topic":"t"}
+{"connector.class":"FileSetSource","files":"x,x,x","tasks.max":"4","topic":"t"} => {"files":"x","task.class":"FileSetSourceTask","topic":"t"}
+{"connector.class":"FileSetSource","files":"x,x,x","tasks.max":"5","topic":"t"} => {"files":"x","task.class":"FileSetSourceTask","topic":"t"}
+{"connector.class":"FileSetSource","files":"z,y,x","tasks.max":"2","topic":"t"} => {"files":"z,y","task.class":"FileSetSourceTask","topic":"t"} {"files":"x","task.class":"FileSetSourceTask","topic":"t"}
+{"connector.class":"FileSetSource","files":"z,y,x","tasks.max":"3","topic":"t"} => {"files":"z","task.class":"FileSetSourceTask","topic":"t"} {"files":"y","task.class":"FileSetSourceTask","topic":"t"} {"files":"x","task.class":"FileSetSourceTask","topic":"t"}
+{"connector.class":"FileSetSource","files":"z,y,x","tasks.max":"4","topic":"t"} => {"files":"z","task.class":"FileSetSourceTask","topic":"t"} {"files":"y","task.class":"FileSetSourceTask","topic":"t"} {"files":"x","task.class":"FileSetSourceTask","topic":"t"}
+{"connector.class":"FileSetSource","files":"z,y,x","tasks.max":"5","topic":"t"} => {"files":"z","task.class":"FileSetSourceTask","topic":"t"} {"files":"y","task.class":"FileSetSourceTask","topic":"t"} {"files":"x","task.class":"FileSetSourceTask","topic":"t"}
+{"connector.class":"FileSetSource","files":"x,y,x,z,y","tasks.max":"2","topic":"t"} => {"files":"x,y","task.class":"FileSetSourceTask","topic":"t"} {"files":"z","task.class":"FileSetSourceTask","topic":"t"}
+{"connector.class":"FileSetSource","files":"x,y,x,z,y","tasks.max":"3","topic":"t"} => {"files":"x","task.class":"FileSetSourceTask","topic":"t"} {"files":"y","task.class":"FileSetSourceTask","topic":"t"} {"files":"z","task.class":"FileSetSourceTask","topic":"t"}
+{"connector.class":"FileSetSource","files":"x,y,x,z,y","tasks.max":"4","topic":"t"} => {"files":"x","task.class":"FileSetSourceTask","topic":"t"} {"files":"y","task.class":"FileSetSourceTask","topic":"t"} {"files":"z","task.class":"FileSetSourceTask","topic":"t"}
+{"connector.class":"FileSetSource","files":"x,y,x,z,y","tasks.max":"5","topic":"t"} => {"files":"x","task.class":"FileSetSourceTask","topic":"t"} {"files":"y","task.class":"FileSetSourceTask","topic":"t"} {"files":"z","task.class":"FileSetSourceTask","topic":"t"}
+{"connector.class":"FileSetSource","files":"a,b,c,d,e,f,g","tasks.max":"2","topic":"t"} => {"files":"a,b,c,d","task.class":"FileSetSourceTask","topic":"t"} {"files":"e,f,g","task.class":"FileSetSourceTask","topic":"t"}
+{"connector.class":"FileSetSource","files":"a,b,c,d,e,f,g","tasks.max":"3","topic":"t"} => {"files":"a,b,c","task.class":"FileSetSourceTask","topic":"t"} {"files":"d,e","task.class":"FileSetSourceTask","topic":"t"} {"files":"f,g","task.class":"FileSetSourceTask","topic":"t"}
+{"connector.class":"FileSetSource","files":"a,b,c,d,e,f,g","tasks.max":"4","topic":"t"} => {"files":"a,b","task.class":"FileSetSourceTask","topic":"t"} {"files":"c,d","task.class":"FileSetSourceTask","topic":"t"} {"files":"e,f","task.class":"FileSetSourceTask","topic":"t"} {"files":"g","task.class":"FileSetSourceTask","topic":"t"}
+{"connector.class":"FileSetSource","files":"a,b,c,d,e,f,g","tasks.max":"5","topic":"t"} => {"files":"a,b","task.class":"FileSetSourceTask","topic":"t"} {"files":"c,d","task.class":"FileSetSourceTask","topic":"t"} {"files":"e","task.class":"FileSetSourceTask","topic":"t"} {"files":"f","task.class":"FileSetSourceTask","topic":"t"} {"files":"g","task.class":"FileSetSourceTask","topic":"t"}
+{"connector.class":"SequenceSource","count":"4294967295","partitions":"1","tasks.max":"1","topic":"t"} => {"count":"4294967295","partitions":"0","task.class":"SequenceSourceTask","topic":"t"}
+{"connector.class":"SequenceSource","count":"4294967295","partitions":"1","tasks.max":"9","topic":"t"} => {"count":"4294967295","partitions":"0","task.class":"SequenceSourceTask","topic":"t"}
+{"connector.class":"SequenceSource","count":"4294967295","partitions":"10","tasks.max":"3","topic":"t"} => {"count":"4294967295","partitions":"0,1,2,3","task.class":"SequenceSourceTask","topic":"t"} {"count":"4294967295","partitions":"4,5,6","task.class":"SequenceSourceTask","topic":"t"} {"count":"4294967295","partitions":"7,8,9","task.class":"SequenceSourceTask","topic":"t"}
+{"connector.class":"SequenceSource","count":"4294967295","partitions":"10","tasks.max":"4","topic":"t"} => {"count":"4294967295","partitions":"0,1,2","task.class":"SequenceSourceTask","topic":"t"} {"count":"4294967295","partitions":"3,4,5","task.class":"SequenceSourceTask","topic":"t"} {"count":"4294967295","partitions":"6,7","task.class":"SequenceSourceTask","topic":"t"} {"count":"4294967295","partitions":"8,9","task.class":"SequenceSourceTask","topic":"t"}
+{"connector.class":"SequenceSource","count":"4294967295","partitions":"11","tasks.max":"4","topic":"t"} => {"count":"4294967295","partitions":"0,1,2","task.class":"SequenceSourceTask","topic":"t"} {"count":"4294967295","partitions":"3,4,5","task.class":"SequenceSourceTask","topic":"t"} {"count":"4294967295","partitions":"6,7,8","task.class":"SequenceSourceTask","topic":"t"} {"count":"4294967295","partitions":"9,10","task.class":"SequenceSourceTask","topic":"t"}
+{"connector.class":"SequenceSource","count":"4294967295","partitions":"12","tasks.max":"5","topic":"t"} => {"count":"4294967295","partitions":"0,1,2","task.class":"SequenceSourceTask","topic":"t"} {"count":"4294967295","partitions":"3,4,5","task.class":"SequenceSourceTask","topic":"t"} {"count":"4294967295","partitions":"6,7","task.class":"SequenceSourceTask","topic":"t"} {"count":"4294967295","partitions":"8,9","task.class":"SequenceSourceTask","topic":"t"} {"count":"4294967295","partitions":"10,11","task.class":"SequenceSourceTask","topic":"t"}
+{"connector.class":"SequenceSource","count":"4294967295","partitions":"13","tasks.max":"13","topic":"t"} => {"count":"4294967295","partitions":"0","task.class":"SequenceSourceTask","topic":"t"} {"count":"4294967295","partitions":"1","task.class":"SequenceSourceTask","topic":"t"} {"count":"4294967295","partitions":"2","task.class":"SequenceSourceTask","topic":"t"} {"count":"4294967295","partitions":"3","task.class":"SequenceSourceTask","topic":"t"} {"count":"4294967295","partitions":"4","task.class":"SequenceSourceTask","topic":"t"} {"count":"4294967295","partitions":"5","task.class":"SequenceSourceTask","topic":"t"} {"count":"4294967295","partitions":"6","task.class":"SequenceSourceTask","topic":"t"} {"count":"4294967295","partitions":"7","task.class":"SequenceSourceTask","topic":"t"} {"count":"4294967295","partitions":"8","task.class":"SequenceSourceTask","topic":"t"} {"count":"4294967295","partitions":"9","task.class":"SequenceSourceTask","topic":"t"} {"count":"4294967295","partitions":"10","task.class":"SequenceSourceTask","topic":"t"} {"count":"4294967295","partitions":"11","task.class":"SequenceSourceTask","topic":"t"} {"count":"4294967295","partitions":"12","task.class":"SequenceSourceTask","topic":"t"}
+{"connector.class":"SequenceSource","count":"4294967295","partitions":"14","tasks.max":"20","topic":"t"} => {"count":"4294967295","partitions":"0","task.class":"SequenceSourceTask","topic":"t"} {"count":"4294967295","partitions":"1","task.class":"SequenceSourceTask","topic":"t"} {"count":"4294967295","partitions":"2","task.class":"SequenceSourceTask","topic":"t"} {"count":"4294967295","partitions":"3","task.class":"SequenceSourceTask","topic":"t"} {"count":"4294967295","partitions":"4","task.class":"SequenceSourceTask","topic":"t"} {"count":"4294967295","partitions":"5","task.class":"SequenceSourceTask","topic":"t"} {"count":"4294967295","partitions":"6","task.class":"SequenceSourceTask","topic":"t"} {"count":"4294967295","partitions":"7","task.class":"SequenceSourceTask","topic":"t"} {"count":"4294967295","partitions":"8","task.class":"SequenceSourceTask","topic":"t"} {"count":"4294967295","partitions":"9","task.class":"SequenceSourceTask","topic":"t"} {"count":"4294967295","partitions":"10","task.class":"SequenceSourceTask","topic":"t"} {"count":"4294967295","partitions":"11","task.class":"SequenceSourceTask","topic":"t"} {"count":"4294967295","partitions":"12","task.class":"SequenceSourceTask","topic":"t"} {"count":"4294967295","partitions":"13","task.class":"SequenceSourceTask","topic":"t"}
+{"connector.class":"SequenceSource","count":"4294967295","partitions":"100","tasks.max":"7","topic":"t"} => {"count":"4294967295","partitions":"0,1,2,3,4,5,6,7,8,9,10,11,12,13,14","task.class":"SequenceSourceTask","topic":"t"} {"count":"4294967295","partitions":"15,16,17,18,19,20,21,22,23,24,25,26,27,28,29","task.class":"SequenceSourceTask","topic":"t"} {"count":"4294967295","partitions":"30,31,32,33,34,35,36,37,38,39,40,41,42,43","task.class":"SequenceSourceTask","topic":"t"} {"count":"4294967295","partitions":"44,45,46,47,48,49,50,51,52,53,54,55,56,57","task.class":"SequenceSourceTask","topic":"t"} {"count":"4294967295","partitions":"58,59,60,61,62,63,64,65,66,67,68,69,70,71","task.class":"SequenceSourceTask","topic":"t"} {"count":"4294967295","partitions":"72,73,74,75,76,77,78,79,80,81,82,83,84,85","task.class":"SequenceSourceTask","topic":"t"} {"count":"4294967295","partitions":"86,87,88,89,90,91,92,93,94,95,96,97,98,99","task.class":"SequenceSourceTask","topic":"t"}
+{"connector.class":"SequenceSource","count":"4294967295","partitions":"9","tasks.max":"2","topic":"t"} => {"count":"4294967295","partitions":"0,1,2,3,4","task.class":"SequenceSourceTask","topic":"t"} {"count":"4294967295","partitions":"5,6,7,8","task.class":"SequenceSourceTask","topic":"t"}
+{"connector.class":"FileSetSource","files":"u","tasks.max":"4","topic":"t"} => {"files":"u","task.class":"FileSetSourceTask","topic":"t"}
+{"connector.class":"FileStreamSink","file":"out","tasks.max":"5","topics":"q,w,w,q"} => {"file":"out","task.class":"FileStreamSinkTask","topics":"q"} {"file":"out","task.class":"FileStreamSinkTask","topics":"w"}
+{"connector.class":"FileStreamSink","file":"out","tasks.max":"2","topics":"w,p,u,v,w,u,w"} => {"file":"out","task.class":"FileStreamSinkTask","topics":"w,p"} {"file":"out","task.class":"FileStreamSinkTask","topics":"u,v"}
+{"connector.class":"FileStreamSink","file":"out","tasks.max":"1","topics":"s,v,p,r,v,q,p,u,s,w"} => {"file":"out","task.class":"FileStreamSinkTask","topics":"s,v,p,r,q,u,w"}
+{"connector.class":"FileStreamSink","file":"out","tasks.max":"3","topics":"q,w,w"} => {"file":"out","task.class":"FileStreamSinkTask","topics":"q"} {"file":"out","task.class":"FileStreamSinkTask","topics":"w"}
+{"connector.class":"FileStreamSink","file":"out","tasks.max":"1","topics":"r,q,r,q,r"} => {"file":"out","task.class":"FileStreamSinkTask","topics":"r,q"}
+{"connector.class":"FileSetSource","files":"u,r,q,p,u,t","tasks.max":"6","topic":"t"} => {"files":"u","task.class":"FileSetSourceTask","topic":"t"} {"files":"r","task.class":"FileSetSourceTask","topic":"t"} {"files":"q","task.class":"FileSetSourceTask","topic":"t"} {"files":"p","task.class":"FileSetSourceTask","topic":"t"} {"files":"t","task.class":"FileSetSourceTask","topic":"t"}
+{"connector.class":"FileSetSource","files":"v","tasks.max":"2","topic":"t"} => {"files":"v","task.class":"FileSetSourceTask","topic":"t"}
+{"connector.class":"FileStreamSink","file":"out","tasks.max":"8","topics":"v,t,u,v,w,w,w,w"} => {"file":"out","task.class":"FileStreamSinkTask","topics":"v"} {"file":"out","task.class":"FileStreamSinkTask","topics":"t"} {"file":"out","task.class":"FileStreamSinkTask","topics":"u"} {"file":"out","task.class":"FileStreamSinkTask","topics":"w"}
+{"connector.class":"FileSetSource","files":"t,p,u,u,v,u,p,s","tasks.max":"5","topic":"t"} => {"files":"t","task.class":"FileSetSourceTask","topic":"t"} {"files":"p","task.class":"FileSetSourceTask","topic":"t"} {"files":"u","task.class":"FileSetSourceTask","topic":"t"} {"files":"v","task.class":"FileSetSourceTask","topic":"t"} {"files":"s","task.class":"FileSetSourceTask","topic":"t"}
+{"connector.class":"FileSetSource","files":"v,t,p,v","tasks.max":"1","topic":"t"} => {"files":"v,t,p","task.class":"FileSetSourceTask","topic":"t"}
+{"connector.class":"FileSetSource","files":"s,p,v","tasks.max":"8","topic":"t"} => {"files":"s","task.class":"FileSetSourceTask","topic":"t"} {"files":"p","task.class":"FileSetSourceTask","topic":"t"} {"files":"v","task.class":"FileSetSourceTask","topic":"t"}
+{"connector.class":"FileStreamSink","file":"out","tasks.max":"2","topics":"t,q,w,q,v,s,p,q,v,v,t"} => {"file":"out","task.class":"FileStreamSinkTask","topics":"t,q,w"} {"file":"out","task.class":"FileStreamSinkTask","topics":"v,s,p"}
+{"connector.class":"FileStreamSink","file":"out","tasks.max":"5","topics":"t,u,q,w,q,s,v,p"} => {"file":"out","task.class":"FileStreamSinkTask","topics":"t,u"} {"file":"out","task.class":"FileStreamSinkTask","topics":"q,w"} {"file":"out","task.class":"FileStreamSinkTask","topics":"s"} {"file":"out","task.class":"FileStreamSinkTask","topics":"v"} {"file":"out","task.class":"FileStreamSinkTask","topics":"p"}
 "##;
