@@ -9,8 +9,8 @@ use Rattle.cw_plugin.specs.declared.class.Class.{Class}
 use Rattle.cw_plugin.specs.declared.class.Field.{Field}
 use Rattle.cw_plugin.specs.declared.fault.PluginFault.{PluginFault}
 use Rattle.cw_plugin.specs.declared.fault.PluginFault.TheVariants.{Missing, BadInt, NoFeed, BadName}
-use Rattle.cw_plugin.specs.Classes.{ClassRow, row_of, class_of, key_of, is_list}
-use Rattle.cw_plugin.specs.Checks.{is_name, first_failing, is_lacking, missing_key, is_bad_number, is_value_bad, bad_key, bad_number, or_text, value_feed_lacking, feed_lacking, is_bad_name, or_fault, fault_of_class, unless_faulty, class_unless, class_called, checked}
+use Rattle.cw_plugin.specs.Classes.{ClassRow, row_of, class_of, key_of}
+use Rattle.cw_plugin.specs.Checks.{is_name, first_failing, is_lacking, missing_key, is_bad_number, is_value_bad, bad_key, bad_number, or_text, value_feed_lacking, feed_lacking, is_bad_name, or_fault, fault_of_class, unless_faulty, class_unless, class_called}
 use Rattle.cw_plugin.specs.Numbers.{batch_size, tasks_max}
 use Rattle.cw_plugin.specs.Tasks.{IsFaultless, class_in}
 

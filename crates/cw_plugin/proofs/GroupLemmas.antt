@@ -1,8 +1,8 @@
 -- Elements of a list: without repeats, in groups, joined by commas and cut again.
-use Rattle.std.proofs.Common.{◌≡◌, ℕ, zero, suc, ◌+◌, ◌-◌, ◌*◌, ◌/◌, ◌%◌, ◌<◌, ◌≤◌, ◌^◌, min, List, [], ◌∷◌, ◌++◌, length, take, drop, map, filter, Bool, true, false, not, cond, ◌==◌, ◌||◌, bytes_eq, decimal, refl, sym, ap, ◌∙◌, subst, inl, inr, arith, length-drop, length-take, take-append-drop}
+use Rattle.std.proofs.Common.{◌≡◌, ℕ, zero, suc, ◌+◌, ◌-◌, ◌*◌, ◌<◌, ◌≤◌, min, List, [], ◌∷◌, ◌++◌, length, take, drop, map, filter, Bool, true, false, not, cond, ◌==◌, ◌||◌, bytes_eq, decimal, refl, sym, ap, ◌∙◌, subst, inl, inr, arith, length-drop, length-take, take-append-drop}
 use Rattle.std.specs.Char.{is_ascii_digit}
-use Rattle.std.specs.List.{AllByRecursion, list_any, list_all, join_with_byte, range_with_len, slice_split, onto_first}
-use Rattle.std.proofs.lemmas.Bool.{both_ways, cases_Bool, or_parts, or_cases, or_from, and_parts, false_from_ne_true}
+use Rattle.std.specs.List.{AllByRecursion, list_any, list_all, join_with_byte, range_with_len, onto_first}
+use Rattle.std.proofs.lemmas.Bool.{both_ways, or_parts, or_cases, or_from, and_parts, false_from_ne_true}
 use Rattle.std.proofs.lemmas.Bool.Decides.{nat_tests}
 use Rattle.std.proofs.lemmas.Fmt.{decimal_injective, digits_decimal}
 use Rattle.std.proofs.lemmas.List.Elements.{All-from_recursion}
@@ -10,8 +10,8 @@ use Rattle.std.proofs.lemmas.List.Folds.{list_any-append}
 use Rattle.std.proofs.lemmas.List.Splits.{slice_split_none, slice_split_at}
 use Rattle.cw_types.proofs.Decimals.{own}
 use Rattle.cw_plugin.specs.Lists.{elements, has_repeat}
-use Rattle.cw_plugin.specs.Tasks.{once, groups, parted, parted_up_to}
-use Rattle.cw_plugin.proofs.ShareLemmas.{Texts, bytes_are, bytes_same}
+use Rattle.cw_plugin.specs.Tasks.{once, groups}
+use Rattle.cw_plugin.proofs.ShareLemmas.{Texts, bytes_are}
 
 abbrev pub Each : {X : Type 0} → (X → Type 0) → List X → Type 0
 Each = AllByRecursion

@@ -1,5 +1,5 @@
 -- The tasks of properties without a fault: each is a task, and no part is in two of them.
-use Rattle.std.proofs.Common.{◌≡◌, ℕ, zero, suc, ◌+◌, ◌*◌, ◌/◌, ◌%◌, ◌<◌, ◌≤◌, min, List, [], ◌∷◌, ◌++◌, length, map, All, AllPairs, Bool, true, false, not, cond, Option, Some, None, option_map, Result, Ok, Err, IfOk, codes, decimal, unwrap_or, IsSome, refl, sym, ap, ◌∙◌, subst, inl, inr, arith}
+use Rattle.std.proofs.Common.{◌≡◌, ℕ, zero, suc, ◌/◌, ◌%◌, ◌<◌, ◌≤◌, min, List, [], ◌∷◌, length, map, All, AllPairs, true, false, not, cond, Option, Some, None, option_map, Result, Ok, Err, IfOk, codes, decimal, unwrap_or, IsSome, refl, sym, ap, ◌∙◌, subst, inl, inr, arith}
 use Rattle.std.specs.Option.{option_map_or, is_some}
 use Rattle.std.specs.List.{join_with_byte, range_with_len}
 use Rattle.std.proofs.lemmas.Bool.{not-false, cases_eq}
@@ -17,8 +17,8 @@ use Rattle.cw_plugin.specs.Classes.{ClassRow, row_of}
 use Rattle.cw_plugin.specs.Checks.{is_name, is_bad_name, is_bad_number}
 use Rattle.cw_plugin.specs.Lists.{elements, has_repeat}
 use Rattle.cw_plugin.specs.Numbers.{or_default, batch_size, sequences, count}
-use Rattle.cw_plugin.specs.Parts.{part_of, parts_behind, pieces, parts_of, with_value, with_fields, idle_task, task_of}
-use Rattle.cw_plugin.specs.Tasks.{IsFaultless, ShareNone, parts_at, task_config, task_configs, configs_of_class, class_in, once, groups, parted, parted_up_to, shared_in, shares, share_count}
+use Rattle.cw_plugin.specs.Parts.{part_of, parts_behind, pieces, parts_of, idle_task, task_of}
+use Rattle.cw_plugin.specs.Tasks.{IsFaultless, ShareNone, parts_at, task_config, task_configs, configs_of_class, once, groups, parted_up_to, shared_in, share_count}
 use Rattle.cw_plugin.proofs.ShareLemmas.{Texts, groups_none}
 use Rattle.cw_plugin.proofs.GroupLemmas.{Each, each_map, each_weaker, Pairs, pairs_map, IsGroup, Apart, groups_law, HasNoComma, elements-join, elements_clean, once_unrepeated, each_once, numbers_unrepeated, decimal_clean, each_number}
 use Rattle.cw_plugin.proofs.FaultlessLemmas.{Props, Faultless, faultless, next_there, next_good, next_loaded, loaded_one, loaded_all, all_named, some_of, source_numbers}

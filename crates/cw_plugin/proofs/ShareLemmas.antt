@@ -1,14 +1,14 @@
 -- What tasks share out: each element once, in groups one behind the other.
-use Rattle.std.proofs.Common.{◌≡◌, ℕ, zero, suc, ◌+◌, ◌-◌, ◌*◌, ◌<◌, ◌≤◌, min, List, [], ◌∷◌, ◌++◌, length, take, drop, map, filter, Bool, true, false, not, cond, bytes_eq, refl, sym, ap, ◌∙◌, subst, inl, inr, ⊎_elim, append_assoc, append-nil, arith, nat_lt, length-drop, get_or, ◌||◌, decimal}
+use Rattle.std.proofs.Common.{◌≡◌, ℕ, suc, ◌+◌, ◌-◌, ◌*◌, ◌<◌, ◌≤◌, min, List, [], ◌∷◌, ◌++◌, length, take, drop, map, filter, Bool, true, false, not, cond, bytes_eq, refl, sym, ap, ◌∙◌, subst, inl, inr, append_assoc, append-nil, arith, nat_lt, length-drop, get_or, ◌||◌, decimal}
 use Rattle.std.specs.Int.{from_bool}
 use Rattle.std.specs.List.{list_any, flat_map, join_with_byte, range_with_len}
-use Rattle.std.proofs.lemmas.Bool.{not-true, not-false, both_ways, lt-ltb, le-ltb, cases_lt, cases_Bool, or_left, or_right, or_from}
+use Rattle.std.proofs.lemmas.Bool.{both_ways, lt-ltb, le-ltb, cases_lt, cases_Bool, or_left, or_right, or_from}
 use Rattle.std.proofs.lemmas.List.{drop_all, drop_more}
 use Rattle.std.proofs.lemmas.List.Elements.{filter_agree}
 use Rattle.std.proofs.lemmas.List.Folds.{list_any-append}
 use Rattle.std.proofs.lemmas.List.FromFn.{map-range_with_len_more}
 use Rattle.std.proofs.lemmas.Slice.Eq.{bytes_eq-Decides}
-use Rattle.cw_plugin.specs.Tasks.{once, add_once, groups, parted, parted_up_to}
+use Rattle.cw_plugin.specs.Tasks.{once, add_once, groups, parted_up_to}
 
 abbrev pub Texts : Type 0
 Texts = List (List ℕ)

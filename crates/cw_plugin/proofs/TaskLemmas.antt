@@ -1,5 +1,5 @@
 -- A task of built properties: what its keys have, and what it reads or writes.
-use Rattle.std.proofs.Common.{◌≡◌, ℕ, zero, suc, ◌^◌, ◌-◌, ◌<◌, ◌≤◌, List, [], ◌∷◌, ◌++◌, length, Bool, true, false, not, cond, Option, Some, None, option_map, option_and_then, bytes_eq, codes, decimal, Contains, IsSome, refl, sym, ap, ◌∙◌, subst, inl, inr, ◌⊎◌, arith, append_assoc, append-nil, nat_lt, ◌||◌}
+use Rattle.std.proofs.Common.{◌≡◌, ℕ, zero, suc, ◌^◌, ◌-◌, ◌<◌, ◌≤◌, List, [], ◌∷◌, ◌++◌, Bool, true, false, cond, Option, Some, None, option_map, option_and_then, bytes_eq, codes, decimal, Contains, IsSome, refl, sym, ap, ◌∙◌, subst, inl, inr, ◌⊎◌, arith, append_assoc, append-nil, ◌||◌}
 use Rattle.std.specs.Option.{option_map_or, is_some}
 use Rattle.std.specs.List.{filter_map, cons_option}
 use Rattle.std.proofs.lemmas.Bool.{or_right}
@@ -16,11 +16,10 @@ use Rattle.cw_plugin.specs.declared.class.TaskField.{TaskField}
 use Rattle.cw_plugin.specs.declared.task.TaskSpec.{TaskSpec}
 use Rattle.cw_plugin.specs.Classes.{ClassRow, row_of, task_class_of, key_of, task_key}
 use Rattle.cw_plugin.specs.Checks.{is_name}
-use Rattle.cw_plugin.specs.Lists.{elements, has_repeat}
 use Rattle.cw_plugin.specs.Numbers.{within, number_in, sequences}
 use Rattle.cw_plugin.specs.Parts.{part_of, parts_behind, with_value, with_fields, task_batch, idle_task, task_of_class, task_of}
 use Rattle.cw_plugin.specs.Tasks.{task_value, task_pair, task_config, parts_at, ShareNone}
-use Rattle.cw_plugin.proofs.ShareLemmas.{Texts, bytes_are, bytes_same}
+use Rattle.cw_plugin.proofs.ShareLemmas.{Texts, bytes_same}
 use Rattle.cw_plugin.proofs.GroupLemmas.{Each, is_in, Apart}
 use Rattle.cw_plugin.proofs.FaultlessLemmas.{Props}
 

@@ -1,6 +1,6 @@
 -- Which tasks a connector has. As in Kafka Connect, there are at most `tasks.max`, and each has properties of its own; how a
 -- list is parted among them is this project's own.
-use Rattle.std.specs.Prelude.{◌≡◌, ℕ, suc, zero, ◌+◌, ◌-◌, ◌/◌, ◌%◌, min, not, List, [], ◌∷◌, length, take, drop, map, filter, Contains, Option, Some, None, option_map, option_and_then, unwrap_or, codes, decimal, bytes_eq, IsOk, ◌++◌, if◌then◌else◌}
+use Rattle.std.specs.Prelude.{ℕ, suc, zero, ◌+◌, ◌-◌, ◌/◌, ◌%◌, min, not, List, [], ◌∷◌, length, take, drop, map, filter, Contains, Option, Some, None, option_map, option_and_then, unwrap_or, codes, decimal, bytes_eq, IsOk, ◌++◌, if◌then◌else◌}
 use Rattle.std.specs.List.{list_any, filter_map, join_with_byte, range_with_len}
 use Rattle.std.specs.Option.{option_map_or}
 use Rattle.cw_types.specs.declared.ids.PartKey.{PartKey}

@@ -1,7 +1,8 @@
-//! Connector classes: which config a connector may have, and what a task reads or writes.
+//! Connector classes: which config a connector may have, which tasks it has, and what a task reads or
+//! writes.
 //!
-//! Its public contract says of each config which class it has or which refusal comes first, and
-//! which parts a task's properties name.
+//! Its public contract says of each config which class it has or which refusal comes first, which
+//! properties its tasks have, of which no two share a part, and which parts a task's properties name.
 //! It stands on the names and numbers of `cw_types` and the properties of `cw_json`.
 #![tactic(auto)]
 

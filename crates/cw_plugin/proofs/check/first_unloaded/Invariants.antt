@@ -1,4 +1,4 @@
-use Rattle.std.proofs.Common.{◌≡◌, drop, None}
+use Rattle.std.proofs.Common.{◌≡◌, drop}
 use Rattle.cw_plugin.specs.Checks.{first_failing, is_among, is_name}
 use Rattle.cw_plugin.proofs.check.first_unloaded.Given as goal
 

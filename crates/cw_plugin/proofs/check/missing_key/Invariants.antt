@@ -1,5 +1,5 @@
 use Rattle.std.proofs.Common.{◌≡◌, drop}
-use Rattle.cw_plugin.specs.Checks.{missing_key, bad_key, is_bad_number}
+use Rattle.cw_plugin.specs.Checks.{missing_key}
 use Rattle.cw_plugin.proofs.check.missing_key.Given as goal
 
 abbrev pub invariant-loop-field : goal.invariant-loop-field

@@ -1,4 +1,4 @@
-use Rattle.std.proofs.Common.{◌≡◌, ◌<◌, ◌∷◌, ◌==◌, [], ℕ, List, length, Option, Some, None, MatchOption, Bor, false, arith, ◌+◌, drop, length-drop}
+use Rattle.std.proofs.Common.{◌≡◌, ◌<◌, ◌∷◌, ◌==◌, [], ℕ, List, length, Option, Some, None, MatchOption, Bor, false, arith, ◌+◌, length-drop}
 use Rattle.std.specs.List.{All, position_or_len, before_first, after_first}
 use Rattle.std.proofs.lemmas.List.Sums.{fails_before_first}
 use Rattle.std.proofs.lemmas.List.Splits.{slice_split_none, slice_split_first}

@@ -1,7 +1,4 @@
-use Rattle.std.proofs.Common.{◌≡◌, ◌++◌, ◌+◌, filter, drop, length, ap, sym, ◌∙◌, append-nil}
-use Rattle.std.proofs.lemmas.List.{drop_more, drop_all}
-use Rattle.cw_plugin.specs.Tasks.{once}
-use Rattle.cw_plugin.proofs.ShareLemmas.{is_new, all_new, once_more, once_begun, once_next, once_done}
+use Rattle.cw_plugin.proofs.ShareLemmas.{once_begun, once_next, once_done}
 use Rattle.cw_plugin.proofs.shares.once.Goals as goal
 
 pub loop-text-init : goal.loop-text-init

@@ -1,4 +1,4 @@
-use Rattle.std.proofs.Common.{◌≡◌, ◌+◌, ◌-◌, ◌*◌, ◌/◌, ◌%◌, ◌++◌, length, map, ap}
+use Rattle.std.proofs.Common.{◌+◌, ◌/◌, ◌%◌, length, map, ap}
 use Rattle.std.specs.List.{join_with_byte}
 use Rattle.cw_plugin.specs.Tasks.{groups}
 use Rattle.cw_plugin.proofs.ShareLemmas.{parted_next, parted_done}

@@ -1,4 +1,4 @@
-use Rattle.std.proofs.Common.{◌≡◌, ◌++◌, ◌-◌, ◌*◌, ◌+◌, ◌≤◌, length, map}
+use Rattle.std.proofs.Common.{◌≡◌, ◌++◌, ◌-◌, ◌*◌, ◌+◌, length, map}
 use Rattle.std.specs.List.{join_with_byte}
 use Rattle.cw_plugin.specs.Tasks.{groups}
 use Rattle.cw_plugin.proofs.shares.parted.Given as goal
