@@ -1,0 +1,9 @@
+pub mod Lists
+pub mod SameLemmas
+pub mod Waiting
+pub mod Chains
+pub mod Takes
+pub mod RowLemmas
+pub mod Places
+pub mod Looks
+pub mod Settled

@@ -1,0 +1,5 @@
+use Rattle.std.proofs.Common.{◌≡◌, take, length}
+use Rattle.cw_data.proofs.entry.same_values.Given as goal
+
+abbrev pub invariant-loop-at : goal.invariant-loop-at
+invariant-loop-at l = take l.at l.b ≡ take l.at l.a

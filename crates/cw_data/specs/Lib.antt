@@ -1,0 +1,5 @@
+pub mod Same
+pub mod Log
+pub mod DataLog
+pub mod Rows
+pub mod Tables

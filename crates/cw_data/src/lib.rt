@@ -1,0 +1,17 @@
+//! The data log: batches of records in topics, and markers that say how their transactions ended (KIP-98).
+//!
+//! Its public contract says that its meaning is a list of batches and markers, that a record's offset is its
+//! place among all records of its topic, where the last stable offset is, and which committed record comes next.
+//! It stands on the ids of `cw_types` and the fields of `cw_bytes`.
+#![tactic(auto)]
+
+mod entry;
+mod rows;
+mod state;
+mod tables;
+mod topic;
+#[cfg(test)]
+mod tests;
+
+pub use entry::{Batch, DataEntry};
+pub use state::DataState;
