@@ -56,8 +56,8 @@ rows_chain name front (e ∷ es) first =
     chain_in (front ++ e ∷ es) (length front) first (length (records_in name e)) (rows_from name (length front + 1) (first + length (records_in name e)) es)
     (λ some. ap length (held_at front e es name some))
     (subst (λ n. Chain (front ++ e ∷ es) (first + length (records_in name e)) (rows_from name n (first + length (records_in name e)) es)) (length_push front e)
-        (subst (λ (l : List DataEntry). Chain l (first + length (records_in name e)) (rows_from name (length (front ++ e ∷ [])) (first + length (records_in name e)) es)) (append_assoc front (e ∷ []) es)
-            (rows_chain name (front ++ e ∷ []) es (first + length (records_in name e)))))
+    (subst (λ (l : List DataEntry). Chain l (first + length (records_in name e)) (rows_from name (length (front ++ e ∷ [])) (first + length (records_in name e)) es)) (append_assoc front (e ∷ []) es)
+    (rows_chain name (front ++ e ∷ []) es (first + length (records_in name e)))))
 
 pub rows_joined : (name : List ℕ) (front es : List DataEntry) (first : ℕ) → flat_map (held (front ++ es)) (rows_from name (length front) first es) ≡ records name es
 rows_joined name front [] first = refl
@@ -65,9 +65,9 @@ rows_joined name front (e ∷ es) first =
     joined_in (front ++ e ∷ es) (length front) first (length (records_in name e)) (records_in name e) (rows_from name (length front + 1) (first + length (records_in name e)) es) refl
     (λ some. held_at front e es name some)
     ∙ ap (λ (l : List Record). records_in name e ++ l)
-        (subst (λ n. flat_map (held (front ++ e ∷ es)) (rows_from name n (first + length (records_in name e)) es) ≡ records name es) (length_push front e)
-            (subst (λ (l : List DataEntry). flat_map (held l) (rows_from name (length (front ++ e ∷ [])) (first + length (records_in name e)) es) ≡ records name es) (append_assoc front (e ∷ []) es)
-                (rows_joined name (front ++ e ∷ []) es (first + length (records_in name e)))))
+    (subst (λ n. flat_map (held (front ++ e ∷ es)) (rows_from name n (first + length (records_in name e)) es) ≡ records name es) (length_push front e)
+    (subst (λ (l : List DataEntry). flat_map (held l) (rows_from name (length (front ++ e ∷ [])) (first + length (records_in name e)) es) ≡ records name es) (append_assoc front (e ∷ []) es)
+    (rows_joined name (front ++ e ∷ []) es (first + length (records_in name e)))))
 
 -- a test of records that tells whether their batch is marked
 module _ (marks : Marks) (entries : List DataEntry) (p : Record → Bool) (tells : (r : Record) → p r ≡ is_some (marks r.tag)) where

@@ -7,3 +7,4 @@ pub mod RowLemmas
 pub mod Places
 pub mod Looks
 pub mod Settled
+pub mod Bodies

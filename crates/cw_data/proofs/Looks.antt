@@ -64,7 +64,7 @@ module _ (marks : Marks) (entries : List DataEntry) (same : (tag : Tag) → mark
   pub stable_is : first_or topic.end (drop topic.passed topic.rows.items) ≡ stable name entries
   stable_is =
       let ends : 0 + prefix_len marked (flat_map (held entries) (rows_of name entries)) ≡ first_or (0 + length (flat_map (held entries) (rows_of name entries))) (drop topic.passed (rows_of name entries)) =
-          front_ends marks entries marked tells_marked (rows_of name entries) 0 topic.passed chain was.waits.marked was.next in
+      front_ends marks entries marked tells_marked (rows_of name entries) 0 topic.passed chain was.waits.marked was.next in
       let end : topic.end ≡ 0 + length (flat_map (held entries) (rows_of name entries)) = omega (arith, was.waits.end, ap length joined) in
       let front : 0 + prefix_len marked (flat_map (held entries) (rows_of name entries)) ≡ prefix_len marked (flat_map (held entries) (rows_of name entries)) = omega arith in
       ap (λ (rows : List Row). first_or topic.end rows) was.waits.back ∙ ap (λ n. first_or n (drop topic.passed (rows_of name entries))) end ∙ sym ends ∙ front ∙ ap (prefix_len marked) joined
@@ -72,17 +72,17 @@ module _ (marks : Marks) (entries : List DataEntry) (same : (tag : Tag) → mark
   pub taken_is : (from : ℕ) → taken name from entries ≡ told (in_row entries from (find (λ (row : Row). nat_lt from row.end) (take topic.kept topic.rows.items)))
   taken_is from =
       let front : take (stable name entries) (records name entries) ≡ flat_map (held entries) (take topic.passed (rows_of name entries)) =
-          sym (ap (λ (l : List Record). take (prefix_len marked l) l) joined) ∙ front_is marks entries marked tells_marked (rows_of name entries) 0 topic.passed chain was.waits.marked was.next in
+      sym (ap (λ (l : List Record). take (prefix_len marked l) l) joined) ∙ front_is marks entries marked tells_marked (rows_of name entries) 0 topic.passed chain was.waits.marked was.next in
       ap (λ (l : List Record). told (find (wanted from (λ r. is_commit (marker_of r.tag entries))) (enumerate_from 0 l))) front
       ∙ ap told (found_in from (λ r. is_commit (marker_of r.tag entries)) marks entries (λ r. ap is_commit (sym (same r.tag))) (take topic.passed (rows_of name entries)) 0
-          (chain_taken entries topic.passed 0 (rows_of name entries) chain))
+      (chain_taken entries topic.passed 0 (rows_of name entries) chain))
       ∙ ap (λ (rows : List Row). told (in_row entries from (find (λ (row : Row). nat_lt from row.end) rows))) (sym was.waits.front)
 
   pub rising : (from : ℕ) → IsPartitionedBy (λ (row : Row). nat_le row.end from) (take topic.kept topic.rows.items)
   rising from = subst (IsPartitionedBy (λ (row : Row). nat_le row.end from)) (sym was.waits.front)
       (partitioned from 0 (filter (commits marks entries) (take topic.passed (rows_of name entries)))
-          (ascends_filtered (commits marks entries) 0 (take topic.passed (rows_of name entries))
-              (ascends_taken topic.passed 0 (rows_of name entries) (ascends_from_chain entries 0 (rows_of name entries) chain))))
+      (ascends_filtered (commits marks entries) 0 (take topic.passed (rows_of name entries))
+      (ascends_taken topic.passed 0 (rows_of name entries) (ascends_from_chain entries 0 (rows_of name entries) chain))))
 
 -- the places without marker, one after the other
 module _ (verdict : Tag → Verdict) (marks : Marks) (all : List DataEntry) (same : (tag : Tag) → marks tag ≡ marker_of tag all) where
@@ -109,5 +109,5 @@ first_ended_is verdict marks front [] same = refl
 first_ended_is verdict marks front (e ∷ es) same =
     one verdict marks (front ++ e ∷ es) same (length front) e (places_from marks (length front + 1) es) (filter_map tag_in es) (slice_get-here front e es)
     (subst (λ n. first_ended verdict (front ++ e ∷ es) (places_from marks n es) ≡ find (λ tag. is_none (marker_of tag (front ++ e ∷ es)) && has_ended (verdict tag)) (filter_map tag_in es)) (length_push front e)
-        (subst (λ (l : List DataEntry). first_ended verdict l (places_from marks (length (front ++ e ∷ [])) es) ≡ find (λ tag. is_none (marker_of tag l) && has_ended (verdict tag)) (filter_map tag_in es)) (append_assoc front (e ∷ []) es)
-            (first_ended_is verdict marks (front ++ e ∷ []) es (λ tag. same tag ∙ sym (ap (marker_of tag) (append_assoc front (e ∷ []) es))))))
+    (subst (λ (l : List DataEntry). first_ended verdict l (places_from marks (length (front ++ e ∷ [])) es) ≡ find (λ tag. is_none (marker_of tag l) && has_ended (verdict tag)) (filter_map tag_in es)) (append_assoc front (e ∷ []) es)
+    (first_ended_is verdict marks (front ++ e ∷ []) es (λ tag. same tag ∙ sym (ap (marker_of tag) (append_assoc front (e ∷ []) es))))))

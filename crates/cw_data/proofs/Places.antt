@@ -86,9 +86,9 @@ module _ (marks now : Marks) (tag : Tag) (falls : (q : Tag) → is_none (now q) 
       filter-append (λ p. not (is_of_tag tag (batch_at (front ++ e ∷ es) p))) (place_in marks (length front) e) (places_from marks (length front + 1) es)
       ∙ ap (λ (l : List ℕ). l ++ filter (λ p. not (is_of_tag tag (batch_at (front ++ e ∷ es) p))) (places_from marks (length front + 1) es)) (place_out (front ++ e ∷ es) (length front) e (slice_get-here front e es))
       ∙ ap (λ (l : List ℕ). place_in now (length front) e ++ l)
-          (subst (λ n. filter (λ p. not (is_of_tag tag (batch_at (front ++ e ∷ es) p))) (places_from marks n es) ≡ places_from now n es) (length_push front e)
-              (subst (λ (l : List DataEntry). filter (λ p. not (is_of_tag tag (batch_at l p))) (places_from marks (length (front ++ e ∷ [])) es) ≡ places_from now (length (front ++ e ∷ [])) es) (append_assoc front (e ∷ []) es)
-                  (places_out (front ++ e ∷ []) es)))
+      (subst (λ n. filter (λ p. not (is_of_tag tag (batch_at (front ++ e ∷ es) p))) (places_from marks n es) ≡ places_from now n es) (length_push front e)
+      (subst (λ (l : List DataEntry). filter (λ p. not (is_of_tag tag (batch_at l p))) (places_from marks (length (front ++ e ∷ [])) es) ≡ places_from now (length (front ++ e ∷ [])) es) (append_assoc front (e ∷ []) es)
+      (places_out (front ++ e ∷ []) es)))
 
 -- each row's batch is of its topic
 pub record RowIn (entries : List DataEntry) (name : List ℕ) (row : Row) : Type 0 where
@@ -114,8 +114,8 @@ each_row name front (e ∷ es) first =
     rows_in_all (front ++ e ∷ es) name (length front) first (length (records_in name e)) (rows_from name (length front + 1) (first + length (records_in name e)) es)
     (λ end some. row_in (front ++ e ∷ es) name (length front) first e (slice_get-here front e es) some end)
     (subst (λ n. AllByRecursion (RowIn (front ++ e ∷ es) name) (rows_from name n (first + length (records_in name e)) es)) (length_push front e)
-        (subst (λ (l : List DataEntry). AllByRecursion (RowIn l name) (rows_from name (length (front ++ e ∷ [])) (first + length (records_in name e)) es)) (append_assoc front (e ∷ []) es)
-            (each_row name (front ++ e ∷ []) es (first + length (records_in name e)))))
+    (subst (λ (l : List DataEntry). AllByRecursion (RowIn l name) (rows_from name (length (front ++ e ∷ [])) (first + length (records_in name e)) es)) (append_assoc front (e ∷ []) es)
+    (each_row name (front ++ e ∷ []) es (first + length (records_in name e)))))
 
 -- a batch without marker has its place among the others
 or_true : (a b : Bool) → b ≡ true → (a || b) ≡ true
@@ -158,10 +158,10 @@ module _ (marks now : Marks) (tag : Tag) (committed : Bool) (falls : (q : Tag) �
   other_tag row at within unmarked none true same =
       let there : batch_at (entries ++ Mark tag committed ∷ []) row.place ≡ Some at.batch = ap batch_in (slice_get-left entries (Mark tag committed ∷ []) row.place within ∙ at.there) in
       let passes : is_of_both tag name (batch_at (entries ++ Mark tag committed ∷ []) row.place) ≡ true =
-          ap (λ o. is_of_both tag name o) there ∙ ap (λ d. is_named name (cond d (Some at.batch.topic) None)) same ∙ at.named in
+      ap (λ o. is_of_both tag name o) there ∙ ap (λ d. is_named name (cond d (Some at.batch.topic) None)) same ∙ at.named in
       let here : row.place ≡ 0 + row.place = omega arith in
       let found = in_places marks (λ place. is_of_both tag name (batch_at (entries ++ Mark tag committed ∷ []) place)) 0 row.place entries at.batch at.there unmarked
-          (subst (λ n. is_of_both tag name (batch_at (entries ++ Mark tag committed ∷ []) n) ≡ true) here passes) in
+      (subst (λ n. is_of_both tag name (batch_at (entries ++ Mark tag committed ∷ []) n) ≡ true) here passes) in
       sym (ap (list_any (λ place. is_of_both tag name (batch_at (entries ++ Mark tag committed ∷ []) place))) are ∙ found) ∙ none
   other_tag row at within unmarked none false same = refl
 
@@ -183,9 +183,9 @@ module _ (marks now : Marks) (tag : Tag) (committed : Bool) (falls : (q : Tag) �
   next_behind (Some topic) was = λ none.
       subst (λ (l : List Row). BeginsUnmarked now (entries ++ Mark tag committed ∷ []) (drop topic.passed l)) (sym (rows_stay name entries (Mark tag committed) refl))
       (begins_still (drop topic.passed (rows_of name entries))
-          (each_dropped (RowIn entries name) topic.passed (rows_of name entries) (each_row name [] entries 0))
-          (each_dropped (λ (row : Row). row.place < length entries) topic.passed (rows_of name entries) (rows_from-within name 0 0 entries (length entries) (omega arith)))
-          was.next none)
+      (each_dropped (RowIn entries name) topic.passed (rows_of name entries) (each_row name [] entries 0))
+      (each_dropped (λ (row : Row). row.place < length entries) topic.passed (rows_of name entries) (rows_from-within name 0 0 entries (length entries) (omega arith)))
+      was.next none)
 
 -- marks behind a marker
 pub stays_marked : (marks : Marks) (tag : Tag) (committed : Bool) (now : Marks) → ((q : Tag) → now q ≡ after_mark marks tag committed q) → (q : Tag) → is_some (marks q) ≡ true → now q ≡ marks q

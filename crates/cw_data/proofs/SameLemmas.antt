@@ -53,7 +53,6 @@ same_tag-Decides a b =
     (Decides-eqb a.number b.number)
     (λ p n. ap (λ (t : Tid). record { tid = t; epoch = a.epoch; number = a.number }) p.0 ∙ ap (λ (m : ℕ). record { tid = b.tid; epoch = record { 0 = m }; number = a.number }) p.1 ∙ ap (λ (m : ℕ). record { tid = b.tid; epoch = b.epoch; number = m }) n) (λ e. ((ap (λ t. t.tid) e, ap (λ t. t.epoch.0) e), ap (λ t. t.number) e))
 
-
 is_eq-then : (o p : Ordering) → is_eq (ordering_then o p) ≡ (is_eq o && is_eq p)
 is_eq-then Less p = refl
 is_eq-then Equal p = refl

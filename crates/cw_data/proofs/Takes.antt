@@ -76,7 +76,7 @@ module _ (from : ℕ) (p : Record → Bool) where
         → find wanted (enumerate_from row.end (flat_map (held entries) rows)) ≡ in_row entries from (find (λ (r : Row). nat_lt from r.end) (filter (commits marks entries) rows))
         → (c b : Bool) → commits marks entries row ≡ c → nat_lt from row.end ≡ b
         → option_or (find wanted (enumerate_from first (held entries row))) (find wanted (enumerate_from row.end (flat_map (held entries) rows)))
-          ≡ in_row entries from (find (λ (r : Row). nat_lt from r.end) (cond c (row ∷ filter (commits marks entries) rows) (filter (commits marks entries) rows)))
+        ≡ in_row entries from (find (λ (r : Row). nat_lt from r.end) (cond c (row ∷ filter (commits marks entries) rows) (filter (commits marks entries) rows)))
     in_first row rows first starts ends some rest true true committed behind =
         let these = first_wanted first (held entries row) (each_held (batch_at entries row.place) true committed) in
         let within : max first from - first < length (held entries row) = grind (arith, nat_tests, ends, some, behind) in
@@ -89,7 +89,7 @@ module _ (from : ℕ) (p : Record → Bool) where
         let these = first_wanted first (held entries row) (each_held (batch_at entries row.place) true committed) in
         let past : length (held entries row) ≤ max first from - first = grind (arith, nat_tests, ends, some, behind) in
         ap (λ o. option_or o (find wanted (enumerate_from row.end (flat_map (held entries) rows))))
-            (these ∙ ap (option_map {U = ℕ × Record} (λ r. (max first from, r))) (slice_get-past (held entries row) (max first from - first) past))
+        (these ∙ ap (option_map {U = ℕ × Record} (λ r. (max first from, r))) (slice_get-past (held entries row) (max first from - first) past))
         ∙ rest
         ∙ sym (ap (λ d. in_row entries from (cond d (Some row) (find (λ (r : Row). nat_lt from r.end) (filter (commits marks entries) rows)))) behind)
     in_first row rows first starts ends some rest false b committed behind =

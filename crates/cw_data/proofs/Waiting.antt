@@ -27,12 +27,12 @@ pub rows_from-push : (topic : List ℕ) (place first : ℕ) (entries : List Data
 rows_from-push topic place first [] entry = append-nil (rows_in place first (length (records_in topic entry))) ∙ rows_at place (place + 0) first (first + 0) (length (records_in topic entry)) (omega arith) (omega arith)
 rows_from-push topic place first (e ∷ es) entry =
     ap (λ (l : List Row). rows_in place first (length (records_in topic e)) ++ l)
-        (rows_from-push topic (place + 1) (first + length (records_in topic e)) es entry)
+    (rows_from-push topic (place + 1) (first + length (records_in topic e)) es entry)
     ∙ sym (append_assoc (rows_in place first (length (records_in topic e))) (rows_from topic (place + 1) (first + length (records_in topic e)) es)
-        (rows_in (place + 1 + length es) (first + length (records_in topic e) + length (records topic es)) (length (records_in topic entry))))
+    (rows_in (place + 1 + length es) (first + length (records_in topic e) + length (records topic es)) (length (records_in topic entry))))
     ∙ ap (λ (l : List Row). rows_in place first (length (records_in topic e)) ++ rows_from topic (place + 1) (first + length (records_in topic e)) es ++ l)
-        (rows_at (place + 1 + length es) (place + suc (length es)) (first + length (records_in topic e) + length (records topic es)) (first + length (records topic (e ∷ es))) (length (records_in topic entry))
-            (omega arith) (omega (arith, length-append (records_in topic e) (records topic es))))
+    (rows_at (place + 1 + length es) (place + suc (length es)) (first + length (records_in topic e) + length (records topic es)) (first + length (records topic (e ∷ es))) (length (records_in topic entry))
+    (omega arith) (omega (arith, length-append (records_in topic e) (records topic es))))
 
 pub records-push : (topic : List ℕ) (entries : List DataEntry) (entry : DataEntry) → records topic (entries ++ entry ∷ []) ≡ records topic entries ++ records_in topic entry
 records-push topic entries entry = flat_map-append (records_in topic) entries (entry ∷ []) ∙ ap (λ (l : List Record). records topic entries ++ l) (append-nil (records_in topic entry))
@@ -88,12 +88,12 @@ module _ (marks now : Marks) (stay : (tag : Tag) → is_some (marks tag) ≡ tru
             ∙ take-append-le topic.kept topic.rows.items (rows_in (length entries) topic.end (length (records_in name entry))) (omega (arith, was.behind, was.within))
             ∙ was.front
             ∙ filter_alike (commits marks entries) (commits now (entries ++ entry ∷ [])) (take topic.passed (rows_of name entries))
-                (each_one (λ (row : Row). mark_at now (entries ++ entry ∷ []) row.place ≡ mark_at marks entries row.place) (λ (row : Row). commits marks entries row ≡ commits now (entries ++ entry ∷ []) row)
-                    (λ row e. sym (ap is_commit e)) (take topic.passed (rows_of name entries)) same)
+            (each_one (λ (row : Row). mark_at now (entries ++ entry ∷ []) row.place ≡ mark_at marks entries row.place) (λ (row : Row). commits marks entries row ≡ commits now (entries ++ entry ∷ []) row)
+            (λ row e. sym (ap is_commit e)) (take topic.passed (rows_of name entries)) same)
             ∙ ap (filter (commits now (entries ++ entry ∷ []))) (sym front_is);
         marked = subst (AllByRecursion (λ (row : Row). is_marked now (entries ++ entry ∷ []) row ≡ true)) (sym front_is)
             (each_both (λ (row : Row). mark_at now (entries ++ entry ∷ []) row.place ≡ mark_at marks entries row.place) (λ (row : Row). is_marked marks entries row ≡ true) (λ (row : Row). is_marked now (entries ++ entry ∷ []) row ≡ true)
-                (λ row e marked. ap is_some e ∙ marked) (take topic.passed (rows_of name entries)) same was.marked);
+            (λ row e marked. ap is_some e ∙ marked) (take topic.passed (rows_of name entries)) same was.marked);
         back = ap (λ n. drop n next.rows.items) passed ∙ ap (drop topic.passed) items
             ∙ drop-append-le topic.passed topic.rows.items (rows_in (length entries) topic.end (length (records_in name entry))) was.within
             ∙ ap (λ (l : List Row). l ++ rows_in (length entries) topic.end (length (records_in name entry))) was.back
@@ -120,8 +120,8 @@ module _ (marks : Marks) (entries : List DataEntry) (name : List ℕ) (topic : T
   marked_more : is_marked marks entries row ≡ true → AllByRecursion (λ (r : Row). is_marked marks entries r ≡ true) (take (topic.passed + 1) (rows_of name entries))
   marked_more marked = recursion_from_All (λ (r : Row). is_marked marks entries r ≡ true) (take (topic.passed + 1) (rows_of name entries))
       (All-more (λ (r : Row). is_marked marks entries r ≡ true) (rows_of name entries) topic.passed row (omega (arith, within, was.long))
-          (All-from_recursion (λ (r : Row). is_marked marks entries r ≡ true) (take topic.passed (rows_of name entries)) was.marked)
-          (subst (λ (r : Row). is_marked marks entries r ≡ true) row_is marked))
+      (All-from_recursion (λ (r : Row). is_marked marks entries r ≡ true) (take topic.passed (rows_of name entries)) was.marked)
+      (subst (λ (r : Row). is_marked marks entries r ≡ true) row_is marked))
 
   pub waits_past : (next : Topic) → mark_at marks entries row.place ≡ Some false → next.rows.items ≡ topic.rows.items → next.end ≡ topic.end → next.kept ≡ topic.kept → next.passed ≡ topic.passed + 1
       → Waits marks entries name next
@@ -249,7 +249,7 @@ topic_stays marks entries entry name (Some topic) none was = record {
   waits = waits_on marks marks (λ tag marked. refl) entries entry name topic none was.waits;
   next = subst (λ (l : List Row). BeginsUnmarked marks (entries ++ entry ∷ []) (drop topic.passed l)) (sym (rows_stay name entries entry none))
       (begins_on marks entries entry (drop topic.passed (rows_of name entries))
-          (each_dropped (λ (row : Row). row.place < length entries) topic.passed (rows_of name entries) (rows_from-within name 0 0 entries (length entries) (omega arith))) was.next);
+      (each_dropped (λ (row : Row). row.place < length entries) topic.passed (rows_of name entries) (rows_from-within name 0 0 entries (length entries) (omega arith))) was.next);
 }
 
 -- the same for the waiting of a topic, where marks may come

@@ -5,13 +5,15 @@
 //! It stands on the ids of `cw_types` and the fields of `cw_bytes`.
 #![tactic(auto)]
 
+mod body;
 mod entry;
 mod rows;
 mod state;
 mod tables;
-mod topic;
 #[cfg(test)]
 mod tests;
+mod topic;
 
+pub use body::{read_data, write_data};
 pub use entry::{Batch, DataEntry};
 pub use state::DataState;

@@ -56,6 +56,16 @@ impl DataState {
         self.entries.as_slice()
     }
 
+    /// The log end offset of a topic: how many records it has, committed or not.
+    pub fn end(&self, topic: &Name) -> u64
+        ensures { result ≡ length (records topic.now self.now.entries) }
+    {
+        match self.tables.topic(topic) {
+            Some(kept) => kept.end,
+            None => 0,
+        }
+    }
+
     /// The last stable offset of a topic: the place of its first record without marker, else its end
     /// (KIP-98, read_committed).
     pub fn stable(&self, topic: &Name) -> u64

@@ -19,7 +19,7 @@ returns-in-Some-clause-advanced c name is =
     let same = (bytes_eq-Decides name c.args.topic.now).0 is in
     at_changed c.args.topics.now (c.get_mut.follows.lender c.advance.new.self) c.args.topic.now c.advance.new.self set (TopicAt (marks_in c.args.marks.now) c.args.entries.now) name
     (λ one. c.advance.ensures.topic name (subst (WaitsAt (marks_in c.args.marks.now) c.args.entries.now name) (ap (get name_order c.args.topics.now) same ∙ sym c.in-Some.ensures.value)
-        (subst (λ n. WaitsAt (marks_in c.args.marks.now) c.args.entries.now n (get name_order c.args.topics.now n)) (sym same) c.requires)))
+    (subst (λ n. WaitsAt (marks_in c.args.marks.now) c.args.entries.now n (get name_order c.args.topics.now n)) (sym same) c.requires)))
     (λ other. cc)
 
 pub returns-in-Some-clause-others : goal.returns-in-Some-clause-others
@@ -32,8 +32,8 @@ returns-in-Some-clause-room c n name was =
     let set : (q : List ℕ) → get name_order (c.get_mut.follows.lender c.advance.new.self) q ≡ cond (is_at (name_order c.args.topic.now) q) (Some c.advance.new.self) (get name_order c.args.topics.now q) = λ q. search rules in
     at_changed c.args.topics.now (c.get_mut.follows.lender c.advance.new.self) c.args.topic.now c.advance.new.self set (λ name o. RoomAt n o) name
     (λ same.
-        let room = row_of (λ name o. RoomAt n o) c.args.topics.now c.args.topic.now name c.in-Some.kept.now (sym c.in-Some.ensures.value) same was in
-        omega (arith, room, c.advance.ensures.same.0, c.advance.ensures.same.1))
+    let room = row_of (λ name o. RoomAt n o) c.args.topics.now c.args.topic.now name c.in-Some.kept.now (sym c.in-Some.ensures.value) same was in
+    omega (arith, room, c.advance.ensures.same.0, c.advance.ensures.same.1))
     (λ other. was)
 
 pub returns-in-None-clause-advanced : goal.returns-in-None-clause-advanced

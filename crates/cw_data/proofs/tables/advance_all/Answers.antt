@@ -19,9 +19,9 @@ loop-place-preserved c =
       next = λ name. by_bool (is_of_both c.args.tag.now name (batch_at c.args.entries.now (get_or c.args.unmarked.now c.loop-place.place-index 0)))
           (λ is. next_from_topic (marks_in c.args.marks.now) c.args.entries.now c.args.tag.now name (drop (c.loop-place.place-index + 1) c.args.unmarked.now) (get name_order c.advance_at.new.topics name) (c.advance_at.ensures.advanced name is))
           (λ isnt. subst (NextAt (marks_in c.args.marks.now) c.args.entries.now c.args.tag.now name (drop (c.loop-place.place-index + 1) c.args.unmarked.now)) (sym (c.advance_at.ensures.others name isnt))
-              (next_on (marks_in c.args.marks.now) c.args.entries.now c.args.tag.now name place (drop (c.loop-place.place-index + 1) c.args.unmarked.now) (get name_order c.loop-place.topics name) isnt
-                  (subst (λ (l : List ℕ). NextAt (marks_in c.args.marks.now) c.args.entries.now c.args.tag.now name l (get name_order c.loop-place.topics name))
-                      (drop_more c.args.unmarked.now c.loop-place.place-index 0 c.loop-place-test.true) (c.loop-place.invariant.next name))));
+          (next_on (marks_in c.args.marks.now) c.args.entries.now c.args.tag.now name place (drop (c.loop-place.place-index + 1) c.args.unmarked.now) (get name_order c.loop-place.topics name) isnt
+          (subst (λ (l : List ℕ). NextAt (marks_in c.args.marks.now) c.args.entries.now c.args.tag.now name l (get name_order c.loop-place.topics name))
+          (drop_more c.args.unmarked.now c.loop-place.place-index 0 c.loop-place-test.true) (c.loop-place.invariant.next name))));
       rows = λ name had. c.advance_at.ensures.rows name (c.loop-place.invariant.rows name had);
       room = λ n name had. c.advance_at.ensures.room n name (c.loop-place.invariant.room n name had);
     }
@@ -30,4 +30,4 @@ pub returns-clause-topics : goal.returns-clause-topics
 returns-clause-topics c name =
     topic_from (marks_in c.args.marks.now) c.args.entries.now c.args.tag.now name (get name_order c.loop-place.topics name) (c.loop-place.invariant.waits name)
     (subst (λ (l : List ℕ). NextAt (marks_in c.args.marks.now) c.args.entries.now c.args.tag.now name l (get name_order c.loop-place.topics name))
-        (drop_all c.loop-place.place-index c.args.unmarked.now (omega arith)) (c.loop-place.invariant.next name))
+    (drop_all c.loop-place.place-index c.args.unmarked.now (omega arith)) (c.loop-place.invariant.next name))

@@ -14,8 +14,8 @@ returns-then-not-has_row-clause-kept c marks entries q was =
     let none : get name_order c.args.topics.now c.args.name.now ≡ None = search rules in
     at_changed c.args.topics.now c.insert.new.self c.in_ok-copy.field-0 c.reserve.new.self set (TopicAt marks entries) q
     (λ same.
-        let empty : records q entries ≡ [] = subst (TopicAt marks entries q) (ap (get name_order c.args.topics.now) (same ∙ c.in_ok-copy.ensures) ∙ none) was in
-        same_topic marks entries q c.new-topic.result c.reserve.new.self c.reserve.ensures.same.0 c.reserve.ensures.same.1 c.reserve.ensures.same.2 c.reserve.ensures.same.3 (c.new-topic.ensures marks entries q empty))
+    let empty : records q entries ≡ [] = subst (TopicAt marks entries q) (ap (get name_order c.args.topics.now) (same ∙ c.in_ok-copy.ensures) ∙ none) was in
+    same_topic marks entries q c.new-topic.result c.reserve.new.self c.reserve.ensures.same.0 c.reserve.ensures.same.1 c.reserve.ensures.same.2 c.reserve.ensures.same.3 (c.new-topic.ensures marks entries q empty))
     (λ other. was)
 
 pub returns-then-not-has_row-clause-room : goal.returns-then-not-has_row-clause-room

@@ -11,7 +11,7 @@ returns-in-Some-clause-kept c marks entries q was =
     let set : (q : List ℕ) → get name_order (c.get_mut.follows.lender c.reserve.new.self) q ≡ cond (is_at (name_order c.args.name.now) q) (Some c.reserve.new.self) (get name_order c.args.topics.now q) = λ q. search rules in
     at_changed c.args.topics.now (c.get_mut.follows.lender c.reserve.new.self) c.args.name.now c.reserve.new.self set (TopicAt marks entries) q
     (λ same. same_topic marks entries q c.in-Some.topic.now c.reserve.new.self c.reserve.ensures.same.0 c.reserve.ensures.same.1 c.reserve.ensures.same.2 c.reserve.ensures.same.3
-        (row_of (TopicAt marks entries) c.args.topics.now c.args.name.now q c.in-Some.topic.now (sym c.in-Some.ensures.value) same was))
+    (row_of (TopicAt marks entries) c.args.topics.now c.args.name.now q c.in-Some.topic.now (sym c.in-Some.ensures.value) same was))
     (λ other. was)
 
 pub returns-in-Some-clause-room : goal.returns-in-Some-clause-room
@@ -19,6 +19,6 @@ returns-in-Some-clause-room c n q was =
     let set : (q : List ℕ) → get name_order (c.get_mut.follows.lender c.reserve.new.self) q ≡ cond (is_at (name_order c.args.name.now) q) (Some c.reserve.new.self) (get name_order c.args.topics.now q) = λ q. search rules in
     at_changed c.args.topics.now (c.get_mut.follows.lender c.reserve.new.self) c.args.name.now c.reserve.new.self set (λ name o. RoomAt n o) q
     (λ same.
-        let room = row_of (λ name o. RoomAt n o) c.args.topics.now c.args.name.now q c.in-Some.topic.now (sym c.in-Some.ensures.value) same was in
-        omega (arith, room, c.reserve.ensures.room, ap length c.reserve.ensures.same.0))
+    let room = row_of (λ name o. RoomAt n o) c.args.topics.now c.args.name.now q c.in-Some.topic.now (sym c.in-Some.ensures.value) same was in
+    omega (arith, room, c.reserve.ensures.room, ap length c.reserve.ensures.same.0))
     (λ other. was)

@@ -24,7 +24,7 @@ invariant_of-self c =
       kept = c.settle.ensures.kept;
       has = subst (HasRoom c.settle.new.tables) (sym c.remove-reserved.ensures.by_index.2)
           (c.settle.ensures.has (take c.in-Some.at c.self.inside.reserved.items) (drop (c.in-Some.at + 1) c.self.inside.reserved.items)
-              (has_all c.self.inside.tables c.self.inside.reserved.items c.in-Some.at (entry_of c.args.entry.now) c.remove-reserved.result first one c.self.invariant.has));
+          (has_all c.self.inside.tables c.self.inside.reserved.items c.in-Some.at (entry_of c.args.entry.now) c.remove-reserved.result first one c.self.invariant.has));
       room = omega (arith, c.self.invariant.room, c.remove-reserved.ensures.len, c.settle.ensures.room, ap length c.settle.ensures.pushed, length-append c.self.inside.entries.items (c.remove-reserved.result ∷ []));
     }
 

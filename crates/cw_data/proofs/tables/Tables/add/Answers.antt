@@ -19,7 +19,7 @@ pub returns-in-Batch-clause-has : goal.returns-in-Batch-clause-has
 returns-in-Batch-clause-has c entry front back ends was =
     let there = subst (λ (e : DataEntry). e ≡ get_or c.args.entries.now c.args.place e) c.in-Batch.is c.index-entries-place.is in
     c.add_batch.ensures.has front back (subst (λ (e : DataEntry). HasRoom c.args.self.now (front ++ e ∷ back))
-        (one_last c.args.entries.now c.args.place entry (InBatch c.in-Batch.batch) ends (ends_with c.args.entries.now c.args.place (InBatch c.in-Batch.batch) c.requires.last there)) was)
+    (one_last c.args.entries.now c.args.place entry (InBatch c.in-Batch.batch) ends (ends_with c.args.entries.now c.args.place (InBatch c.in-Batch.batch) c.requires.last there)) was)
 
 pub add_mark-requires : goal.add_mark-requires
 add_mark-requires c =
@@ -34,4 +34,4 @@ pub returns-in-Mark-clause-has : goal.returns-in-Mark-clause-has
 returns-in-Mark-clause-has c entry front back ends was =
     let there = subst (λ (e : DataEntry). e ≡ get_or c.args.entries.now c.args.place e) c.in-Mark.is c.index-entries-place.is in
     c.add_mark.ensures.has front back (subst (λ (e : DataEntry). HasRoom c.args.self.now (front ++ e ∷ back))
-        (one_last c.args.entries.now c.args.place entry (Mark c.in-Mark.tag c.in-Mark.committed) ends (ends_with c.args.entries.now c.args.place (Mark c.in-Mark.tag c.in-Mark.committed) c.requires.last there)) was)
+    (one_last c.args.entries.now c.args.place entry (Mark c.in-Mark.tag c.in-Mark.committed) ends (ends_with c.args.entries.now c.args.place (Mark c.in-Mark.tag c.in-Mark.committed) c.requires.last there)) was)

@@ -12,7 +12,7 @@ add_to-requires-clause-has c = c.requires.has.rows (InBatch c.args.batch.now) (0
 pub returns-clause-kept : goal.returns-clause-kept
 returns-clause-kept c =
     let unmarked : c.is_none-is_unmarked.result ≡ is_none (marks_in c.args.self.now.marks c.args.batch.now.tag) =
-        none_is (marks_in c.args.self.now.marks c.args.batch.now.tag) c.is_none-is_unmarked.result (sym (ap is_some c.marker.ensures) ∙ c.is_none-is_unmarked.ensures) in
+    none_is (marks_in c.args.self.now.marks c.args.batch.now.tag) c.is_none-is_unmarked.result (sym (ap is_some c.marker.ensures) ∙ c.is_none-is_unmarked.ensures) in
     let place : c.args.place ≡ 0 + length (take c.args.place c.args.entries.now) = omega (arith, c.requires.last.at) in
     record {
       marks = λ tag. c.requires.kept.marks tag ∙ sym (ap (marker_of tag) c.requires.last.last ∙ marker_of-batch tag (take c.args.place c.args.entries.now) c.args.batch.now);

@@ -19,16 +19,16 @@ pub advance_all-requires-clause-waits : goal.advance_all-requires-clause-waits
 advance_all-requires-clause-waits c name =
     subst (λ (l : List DataEntry). WaitsAt (marks_in c.mark.new.marks) l name (get name_order c.args.self.now.topics name)) (sym c.requires.last.last)
     (waits_stay (marks_in c.args.self.now.marks) (marks_in c.mark.new.marks) (stays_marked (marks_in c.args.self.now.marks) c.args.tag.now c.args.committed (marks_in c.mark.new.marks) c.mark.ensures.marked)
-        (take c.args.place c.args.entries.now) (Mark c.args.tag.now c.args.committed) name (get name_order c.args.self.now.topics name) refl
-        (waits_from_topic (marks_in c.args.self.now.marks) (take c.args.place c.args.entries.now) name (get name_order c.args.self.now.topics name) (c.requires.kept.topics name)))
+    (take c.args.place c.args.entries.now) (Mark c.args.tag.now c.args.committed) name (get name_order c.args.self.now.topics name) refl
+    (waits_from_topic (marks_in c.args.self.now.marks) (take c.args.place c.args.entries.now) name (get name_order c.args.self.now.topics name) (c.requires.kept.topics name)))
 
 pub advance_all-requires-clause-next : goal.advance_all-requires-clause-next
 advance_all-requires-clause-next c name =
     subst (λ (places : List ℕ). NextAt (marks_in c.mark.new.marks) c.args.entries.now c.args.tag.now name places (get name_order c.args.self.now.topics name)) (sym c.as_slice.ensures.value)
     (subst (λ (l : List DataEntry). NextAt (marks_in c.mark.new.marks) l c.args.tag.now name c.args.self.now.unmarked.items (get name_order c.args.self.now.topics name)) (sym c.requires.last.last)
-        (next_behind (marks_in c.args.self.now.marks) (marks_in c.mark.new.marks) c.args.tag.now c.args.committed
-            (falls_by (marks_in c.args.self.now.marks) c.args.tag.now c.args.committed (marks_in c.mark.new.marks) c.mark.ensures.marked)
-            (take c.args.place c.args.entries.now) name c.args.self.now.unmarked.items c.requires.kept.unmarked (get name_order c.args.self.now.topics name) (c.requires.kept.topics name)))
+    (next_behind (marks_in c.args.self.now.marks) (marks_in c.mark.new.marks) c.args.tag.now c.args.committed
+    (falls_by (marks_in c.args.self.now.marks) c.args.tag.now c.args.committed (marks_in c.mark.new.marks) c.mark.ensures.marked)
+    (take c.args.place c.args.entries.now) name c.args.self.now.unmarked.items c.requires.kept.unmarked (get name_order c.args.self.now.topics name) (c.requires.kept.topics name)))
 
 pub returns-clause-kept : goal.returns-clause-kept
 returns-clause-kept c =
@@ -38,8 +38,8 @@ returns-clause-kept c =
           ∙ sym (ap (marker_of q) c.requires.last.last ∙ marker_of-push q (take c.args.place c.args.entries.now) (Mark c.args.tag.now c.args.committed));
       unmarked = c.remove_marked.ensures.items
           ∙ ap (filter (λ place. not (is_of_tag c.args.tag.now (batch_at c.args.entries.now place))))
-              (c.requires.kept.unmarked ∙ sym (ap (places_from (marks_in c.args.self.now.marks) 0) c.requires.last.last
-                  ∙ places_from-push (marks_in c.args.self.now.marks) 0 (take c.args.place c.args.entries.now) (Mark c.args.tag.now c.args.committed) ∙ append-nil (places_from (marks_in c.args.self.now.marks) 0 (take c.args.place c.args.entries.now))))
+          (c.requires.kept.unmarked ∙ sym (ap (places_from (marks_in c.args.self.now.marks) 0) c.requires.last.last
+          ∙ places_from-push (marks_in c.args.self.now.marks) 0 (take c.args.place c.args.entries.now) (Mark c.args.tag.now c.args.committed) ∙ append-nil (places_from (marks_in c.args.self.now.marks) 0 (take c.args.place c.args.entries.now))))
           ∙ places_out (marks_in c.args.self.now.marks) (marks_in c.mark.new.marks) c.args.tag.now falls [] c.args.entries.now;
       topics = c.advance_all.ensures.topics;
     }
