@@ -158,10 +158,11 @@ fn offset_from(log: &DataState, topic: &Name, from: u64) -> u64 {
     }
 }
 
-// A task's index, its epoch and the transaction's number; then the topic and the values, or how it ended.
+// A task's index, its epoch and the transaction's number; then the topic and the values between commas, or
+// how it ended.
 #[derive(Clone, Copy, Drop)]
 enum Step<'a> {
-    Add(u32, u64, u64, &'a [u8], &'a [&'a [u8]]),
+    Add(u32, u64, u64, &'a [u8], &'a [u8]),
     Mark(u32, u64, u64, bool),
 }
 
@@ -172,6 +173,14 @@ fn task_tag(alloc: Global, index: u32, epoch: u64, number: u64) -> Result<Tag, F
         epoch: Epoch(epoch),
         number,
     })
+}
+
+fn between_commas(alloc: Global, values: &[u8]) -> Result<Listed<Listed<u8>>, AllocError> {
+    let mut list = Vec::new(alloc);
+    for value in values.split(|byte| *byte == b',') {
+        list.push(Listed::new(value.to_vec(alloc)?))?;
+    }
+    Ok(Listed::new(list))
 }
 
 fn take_step(
@@ -187,7 +196,7 @@ fn take_step(
                 part: PartKey::Raw(0),
                 from: 0,
                 to: 9,
-                values: texts(rt.alloc(), values)?,
+                values: between_commas(rt.alloc(), values)?,
             };
             add(rt, log, batch)?;
         }
@@ -198,122 +207,132 @@ fn take_step(
     Ok(())
 }
 
-// Steps, and then of each topic the last stable offset and what is taken from offsets on.
-#[test]
-fn steps_leave_what_the_model_says(rt: HostRuntime) -> Result<(), Fail> {
-    let table: [(&[Step<'_>], &[Topic<'_>]); 6] = [
-        (
-            &[
-                Step::Add(0, 1, 0, b"t", &[b"a", b"b", b"c"]),
-                Step::Mark(0, 1, 0, true),
-            ],
-            &[(
-                b"t",
-                3,
-                &[
-                    (0, Some((0, b"a"))),
-                    (1, Some((1, b"b"))),
-                    (2, Some((2, b"c"))),
-                    (3, None),
-                ],
-            )],
-        ),
-        (
-            &[
-                Step::Add(0, 1, 0, b"t", &[b"a"]),
-                Step::Add(0, 1, 1, b"t", &[b"b"]),
-                Step::Mark(0, 1, 1, true),
-                Step::Mark(0, 1, 0, false),
-            ],
-            &[(
-                b"t",
-                2,
-                &[(0, Some((1, b"b"))), (1, Some((1, b"b"))), (2, None)],
-            )],
-        ),
-        (
-            &[
-                Step::Add(0, 1, 0, b"t", &[b"a"]),
-                Step::Add(1, 1, 0, b"u", &[b"0-0", b"0-1"]),
-                Step::Mark(1, 1, 0, true),
-                Step::Mark(0, 1, 0, true),
-            ],
-            &[
-                (b"t", 1, &[(0, Some((0, b"a"))), (1, None), (2, None)]),
-                (
-                    b"u",
-                    2,
-                    &[(0, Some((0, b"0-0"))), (1, Some((1, b"0-1"))), (2, None)],
-                ),
-            ],
-        ),
-        (
-            &[
-                Step::Add(0, 1, 0, b"t", &[b"a"]),
-                Step::Add(0, 1, 0, b"t", &[b"0-0", b"0-1"]),
-                Step::Mark(0, 1, 0, true),
-            ],
-            &[(
-                b"t",
-                3,
-                &[
-                    (0, Some((0, b"a"))),
-                    (1, Some((1, b"0-0"))),
-                    (2, Some((2, b"0-1"))),
-                    (3, None),
-                ],
-            )],
-        ),
-        (
-            &[
-                Step::Add(0, 1, 0, b"t", &[b"\xff", b"\x0d"]),
-                Step::Mark(0, 1, 0, true),
-            ],
-            &[(
-                b"t",
-                2,
-                &[(0, Some((0, b"\xff"))), (1, Some((1, b"\x0d"))), (2, None)],
-            )],
-        ),
-        (
-            &[
-                Step::Add(0, 2, 1, b"u", &[b"r1.0"]),
-                Step::Mark(0, 2, 1, false),
-                Step::Add(2, 3, 2, b"t", &[b"r2.0", b"r2.1", b"r2.2"]),
-                Step::Mark(2, 3, 2, true),
-            ],
-            &[
-                (
-                    b"t",
-                    3,
-                    &[
-                        (0, Some((0, b"r2.0"))),
-                        (1, Some((1, b"r2.1"))),
-                        (2, Some((2, b"r2.2"))),
-                        (3, None),
-                    ],
-                ),
-                (b"u", 1, &[(0, None), (1, None), (2, None)]),
-            ],
-        ),
-    ];
-    for (steps, topics) in table {
-        let mut log = DataState::new(rt.alloc());
-        for one in steps {
-            take_step(&rt, &mut log, *one)?;
-        }
-        for (name, stable, takes) in topics {
-            let name = Name::read(rt.alloc(), name)?;
-            assert_eq!(rt; log.stable(&name), *stable);
-            for (from, taken) in *takes {
-                assert!(rt; log.take(&name, *from) == *taken);
-            }
-        }
+fn play(rt: &(impl Abort + AllocGlobal), steps: &[Step<'_>]) -> Result<DataState, Fail> {
+    let mut log = DataState::new(rt.alloc());
+    for step in steps {
+        take_step(rt, &mut log, *step)?;
+    }
+    Ok(log)
+}
+
+// The last stable offset of a topic, and what is taken from 0, 1 and so on.
+fn agree(
+    rt: &(impl Abort + AllocGlobal),
+    log: &DataState,
+    topic: &[u8],
+    stable: u64,
+    takes: &[Option<(u64, &[u8])>],
+) -> Result<(), Fail> {
+    let topic = Name::read(rt.alloc(), topic)?;
+    assert_eq!(rt; log.stable(&topic), stable);
+    for (from, taken) in takes.iter().enumerate() {
+        assert!(rt; log.take(&topic, from as u64) == *taken);
     }
     Ok(())
 }
 
-type Topic<'a> = (&'a [u8], u64, &'a [(u64, Option<(u64, &'a [u8])>)]);
+#[test]
+fn steps_leave_what_the_model_says(rt: HostRuntime) -> Result<(), Fail> {
+    let log = play(
+        &rt,
+        &[
+            Step::Add(0, 1, 0, b"t", b"a,b,c"),
+            Step::Mark(0, 1, 0, true),
+        ],
+    )?;
+    agree(
+        &rt,
+        &log,
+        b"t",
+        3,
+        &[Some((0, b"a")), Some((1, b"b")), Some((2, b"c")), None],
+    )?;
+    let log = play(
+        &rt,
+        &[
+            Step::Add(0, 1, 0, b"t", b"a"),
+            Step::Add(0, 1, 1, b"t", b"b"),
+            Step::Mark(0, 1, 1, true),
+            Step::Mark(0, 1, 0, false),
+        ],
+    )?;
+    agree(
+        &rt,
+        &log,
+        b"t",
+        2,
+        &[Some((1, b"b")), Some((1, b"b")), None],
+    )?;
+    let log = play(
+        &rt,
+        &[
+            Step::Add(0, 1, 0, b"t", b"a"),
+            Step::Add(1, 1, 0, b"u", b"0-0,0-1"),
+            Step::Mark(1, 1, 0, true),
+            Step::Mark(0, 1, 0, true),
+        ],
+    )?;
+    agree(&rt, &log, b"t", 1, &[Some((0, b"a")), None, None])?;
+    agree(
+        &rt,
+        &log,
+        b"u",
+        2,
+        &[Some((0, b"0-0")), Some((1, b"0-1")), None],
+    )?;
+    let log = play(
+        &rt,
+        &[
+            Step::Add(0, 1, 0, b"t", b"a"),
+            Step::Add(0, 1, 0, b"t", b"0-0,0-1"),
+            Step::Mark(0, 1, 0, true),
+        ],
+    )?;
+    agree(
+        &rt,
+        &log,
+        b"t",
+        3,
+        &[Some((0, b"a")), Some((1, b"0-0")), Some((2, b"0-1")), None],
+    )?;
+    let log = play(
+        &rt,
+        &[
+            Step::Add(0, 1, 0, b"t", b"\xff,\x0d"),
+            Step::Mark(0, 1, 0, true),
+        ],
+    )?;
+    agree(
+        &rt,
+        &log,
+        b"t",
+        2,
+        &[Some((0, b"\xff")), Some((1, b"\x0d")), None],
+    )?;
+    let log = play(
+        &rt,
+        &[
+            Step::Add(0, 2, 1, b"u", b"r1.0"),
+            Step::Mark(0, 2, 1, false),
+            Step::Add(2, 3, 2, b"t", b"r2.0,r2.1,r2.2"),
+            Step::Mark(2, 3, 2, true),
+        ],
+    )?;
+    agree(
+        &rt,
+        &log,
+        b"t",
+        3,
+        &[
+            Some((0, b"r2.0")),
+            Some((1, b"r2.1")),
+            Some((2, b"r2.2")),
+            None,
+        ],
+    )?;
+    agree(&rt, &log, b"u", 1, &[None, None, None])?;
+    Ok(())
+}
 
 #[test]
 fn bodies_are_read_and_written_again(rt: HostRuntime) -> Result<(), Fail> {
