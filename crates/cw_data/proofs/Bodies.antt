@@ -20,7 +20,7 @@ use Rattle.cw_bytes.proofs.Many.{many_takes, many_again}
 use Rattle.cw_bytes.proofs.Marks.{mark_takes, mark_again}
 use Rattle.cw_data.specs.declared.entry.DataEntry.{DataEntry}
 use Rattle.cw_data.specs.declared.entry.DataEntry.TheVariants.{Batch as InBatch, Mark}
-use Rattle.cw_data.specs.Body.{span_of, values_bytes, entry_bytes, AreValues, IsEntry}
+use Rattle.cw_data.specs.Body.{span_of, values_bytes, entry_bytes, AreValues, IsEntry, IsShort}
 use Rattle.cw_data.specs.BodyReading.{values_at, spanned_at, named_at, batch_of, stored_at, marked_at, entry_at}
 
 values_takes : (from : Unread) (values : List (List ℕ)) (next : Unread) → AreBytes from.rest → values_at from ≡ Ok (values, next) → Passes (values_bytes values) from next × AreValues values
@@ -124,3 +124,8 @@ entry_again (Mark tag committed) is from next takes = kind_again 2 (mark_bytes (
 -- an entry is seen as itself
 abbrev pub itself : DataEntry → DataEntry
 itself entry = entry
+
+-- what was read can be written
+pub short : (entry : DataEntry) → IsEntry entry → IsShort entry
+short (InBatch batch) is = is.3
+short (Mark tag committed) is = tt

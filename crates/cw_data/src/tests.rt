@@ -1,7 +1,7 @@
 //! Runs of the data log, and its bodies, against answers that come from an independent model.
-use crate::{Batch, DataEntry, DataState, read_data, write_data};
+use crate::{Batch, DataState, read_data, write_data};
 use cw_bytes::BodyFault;
-use cw_types::{Decided, Epoch, Listed, Name, PartKey, Tag, TaskId, Tid, Verdict};
+use cw_types::{Decided, Epoch, Listed, Name, PartKey, Tag, Tid, Verdict};
 use std::alloc::{AllocError, Global};
 use std::process::Abort;
 use std::test::Fail;
@@ -91,63 +91,51 @@ fn reserved_calls_are_used_up(rt: HostRuntime) -> Result<(), Fail> {
     Ok(())
 }
 
-// How three batches of 1, 2 and 1 records are marked, the last stable offset, and the offset of the record
-// that is taken from each offset on, 9 where there is none. A batch of another topic stays open before them.
+// How three batches of 1, 2 and 1 records are marked (open, committed or aborted), the last stable offset, and
+// the offset of the record that is taken from each offset on, 9 where there is none.
+const ORDERS: &str =
+    "OOO099999 OOC099999 OOA099999 OCO099999 OCC099999 OCA099999 OAO099999 OAC099999 OAA099999 COO109999 COC109999 COA109999 CCO301299 CCC401239 CCA401299 CAO309999 CAC403339 CAA409999 AOO199999 AOC199999 AOA199999 ACO311299 ACC411239 ACA411299 AAO399999 AAC433339 AAA499999";
+
 #[test]
 fn open_committed_and_aborted_batches_in_every_order(rt: HostRuntime) -> Result<(), Fail> {
-    let table: [([Option<bool>; 3], u64, [u64; 5]); 27] = [
-        ([None, None, None], 0, [9, 9, 9, 9, 9]),
-        ([None, None, Some(true)], 0, [9, 9, 9, 9, 9]),
-        ([None, None, Some(false)], 0, [9, 9, 9, 9, 9]),
-        ([None, Some(true), None], 0, [9, 9, 9, 9, 9]),
-        ([None, Some(true), Some(true)], 0, [9, 9, 9, 9, 9]),
-        ([None, Some(true), Some(false)], 0, [9, 9, 9, 9, 9]),
-        ([None, Some(false), None], 0, [9, 9, 9, 9, 9]),
-        ([None, Some(false), Some(true)], 0, [9, 9, 9, 9, 9]),
-        ([None, Some(false), Some(false)], 0, [9, 9, 9, 9, 9]),
-        ([Some(true), None, None], 1, [0, 9, 9, 9, 9]),
-        ([Some(true), None, Some(true)], 1, [0, 9, 9, 9, 9]),
-        ([Some(true), None, Some(false)], 1, [0, 9, 9, 9, 9]),
-        ([Some(true), Some(true), None], 3, [0, 1, 2, 9, 9]),
-        ([Some(true), Some(true), Some(true)], 4, [0, 1, 2, 3, 9]),
-        ([Some(true), Some(true), Some(false)], 4, [0, 1, 2, 9, 9]),
-        ([Some(true), Some(false), None], 3, [0, 9, 9, 9, 9]),
-        ([Some(true), Some(false), Some(true)], 4, [0, 3, 3, 3, 9]),
-        ([Some(true), Some(false), Some(false)], 4, [0, 9, 9, 9, 9]),
-        ([Some(false), None, None], 1, [9, 9, 9, 9, 9]),
-        ([Some(false), None, Some(true)], 1, [9, 9, 9, 9, 9]),
-        ([Some(false), None, Some(false)], 1, [9, 9, 9, 9, 9]),
-        ([Some(false), Some(true), None], 3, [1, 1, 2, 9, 9]),
-        ([Some(false), Some(true), Some(true)], 4, [1, 1, 2, 3, 9]),
-        ([Some(false), Some(true), Some(false)], 4, [1, 1, 2, 9, 9]),
-        ([Some(false), Some(false), None], 3, [9, 9, 9, 9, 9]),
-        ([Some(false), Some(false), Some(true)], 4, [3, 3, 3, 3, 9]),
-        ([Some(false), Some(false), Some(false)], 4, [9, 9, 9, 9, 9]),
-    ];
-    let topic = Name::read(rt.alloc(), b"t")?;
-    let other = Name::read(rt.alloc(), b"u")?;
-    for (marks, stable, takes) in table {
-        let mut log = DataState::new(rt.alloc());
-        add(&rt, &mut log, batch(rt.alloc(), 9, &other, &[b"x"])?)?;
-        add(&rt, &mut log, batch(rt.alloc(), 0, &topic, &[b"0"])?)?;
-        add(&rt, &mut log, batch(rt.alloc(), 1, &topic, &[b"1", b"2"])?)?;
-        add(&rt, &mut log, batch(rt.alloc(), 2, &topic, &[b"3"])?)?;
-        mark(&mut log, 2, marks[2])?;
-        mark(&mut log, 0, marks[0])?;
-        mark(&mut log, 1, marks[1])?;
-        assert_eq!(rt; log.stable(&topic), stable);
-        assert_eq!(rt; log.stable(&other), 0);
-        for from in 0..5 {
-            assert_eq!(rt; offset_from(&log, &topic, from), takes[from as usize]);
-        }
+    for row in ORDERS.split_whitespace() {
+        play_order(&rt, row.as_bytes())?;
     }
     Ok(())
 }
 
-fn mark(log: &mut DataState, number: u64, committed: Option<bool>) -> Result<(), AllocError> {
-    match committed {
-        Some(committed) => log.mark(&tag(number), committed),
-        None => Ok(()),
+// A batch of another topic stays open before the three.
+fn play_order(rt: &(impl Abort + AllocGlobal), row: &[u8]) -> Result<(), Fail> {
+    let [first, second, third, stable, takes @ ..] = row else {
+        return Err(Fail::from("a row"));
+    };
+    let topic = Name::read(rt.alloc(), b"t")?;
+    let other = Name::read(rt.alloc(), b"u")?;
+    let mut log = DataState::new(rt.alloc());
+    add(rt, &mut log, batch(rt.alloc(), 9, &other, &[b"x"])?)?;
+    add(rt, &mut log, batch(rt.alloc(), 0, &topic, &[b"0"])?)?;
+    add(rt, &mut log, batch(rt.alloc(), 1, &topic, &[b"1", b"2"])?)?;
+    add(rt, &mut log, batch(rt.alloc(), 2, &topic, &[b"3"])?)?;
+    mark(&mut log, 2, *third)?;
+    mark(&mut log, 0, *first)?;
+    mark(&mut log, 1, *second)?;
+    assert_eq!(rt; log.stable(&topic), digit(*stable));
+    assert_eq!(rt; log.stable(&other), 0);
+    for (from, taken) in takes.iter().enumerate() {
+        assert_eq!(rt; offset_from(&log, &topic, from as u64), digit(*taken));
+    }
+    Ok(())
+}
+
+fn digit(byte: u8) -> u64 {
+    u64::from(byte).saturating_sub(48)
+}
+
+fn mark(log: &mut DataState, number: u64, how: u8) -> Result<(), AllocError> {
+    match how {
+        b'C' => log.mark(&tag(number), true),
+        b'A' => log.mark(&tag(number), false),
+        _ => Ok(()),
     }
 }
 
@@ -158,220 +146,86 @@ fn offset_from(log: &DataState, topic: &Name, from: u64) -> u64 {
     }
 }
 
-// A task's index, its epoch and the transaction's number; then the topic and the values between commas, or
-// how it ended.
-#[derive(Clone, Copy, Drop)]
-enum Step<'a> {
-    Add(u32, u64, u64, &'a [u8], &'a [u8]),
-    Mark(u32, u64, u64, bool),
-}
-
-fn task_tag(alloc: Global, index: u32, epoch: u64, number: u64) -> Result<Tag, Fail> {
-    let connector = Name::read(alloc, b"a")?;
-    Ok(Tag {
-        tid: Tid::Task(TaskId { connector, index }),
-        epoch: Epoch(epoch),
-        number,
-    })
-}
-
-fn between_commas(alloc: Global, values: &[u8]) -> Result<Listed<Listed<u8>>, AllocError> {
-    let mut list = Vec::new(alloc);
-    for value in values.split(|byte| *byte == b',') {
-        list.push(Listed::new(value.to_vec(alloc)?))?;
-    }
-    Ok(Listed::new(list))
-}
-
-fn take_step(
-    rt: &(impl Abort + AllocGlobal),
-    log: &mut DataState,
-    step: Step<'_>,
-) -> Result<(), Fail> {
-    match step {
-        Step::Add(index, epoch, number, topic, values) => {
-            let batch = Batch {
-                tag: task_tag(rt.alloc(), index, epoch, number)?,
-                topic: Name::read(rt.alloc(), topic)?,
-                part: PartKey::Raw(0),
-                from: 0,
-                to: 9,
-                values: between_commas(rt.alloc(), values)?,
-            };
-            add(rt, log, batch)?;
-        }
-        Step::Mark(index, epoch, number, committed) => {
-            log.mark(&task_tag(rt.alloc(), index, epoch, number)?, committed)?;
-        }
-    }
-    Ok(())
-}
-
-fn play(rt: &(impl Abort + AllocGlobal), steps: &[Step<'_>]) -> Result<DataState, Fail> {
-    let mut log = DataState::new(rt.alloc());
-    for step in steps {
-        take_step(rt, &mut log, *step)?;
-    }
-    Ok(log)
-}
-
-// The last stable offset of a topic, and what is taken from 0, 1 and so on.
-fn agree(
-    rt: &(impl Abort + AllocGlobal),
-    log: &DataState,
-    topic: &[u8],
-    stable: u64,
-    takes: &[Option<(u64, &[u8])>],
-) -> Result<(), Fail> {
-    let topic = Name::read(rt.alloc(), topic)?;
-    assert_eq!(rt; log.stable(&topic), stable);
-    for (from, taken) in takes.iter().enumerate() {
-        assert!(rt; log.take(&topic, from as u64) == *taken);
-    }
-    Ok(())
-}
-
 #[test]
-fn steps_leave_what_the_model_says(rt: HostRuntime) -> Result<(), Fail> {
-    let log = play(
+fn topics_have_offsets_of_their_own(rt: HostRuntime) -> Result<(), Fail> {
+    let topic = Name::read(rt.alloc(), b"t")?;
+    let other = Name::read(rt.alloc(), b"u")?;
+    let mut log = DataState::new(rt.alloc());
+    add(&rt, &mut log, batch(rt.alloc(), 0, &topic, &[b"a"])?)?;
+    add(
         &rt,
-        &[
-            Step::Add(0, 1, 0, b"t", b"a,b,c"),
-            Step::Mark(0, 1, 0, true),
-        ],
+        &mut log,
+        batch(rt.alloc(), 1, &other, &[b"0-0", b"0-1"])?,
     )?;
-    agree(
-        &rt,
-        &log,
-        b"t",
-        3,
-        &[Some((0, b"a")), Some((1, b"b")), Some((2, b"c")), None],
-    )?;
-    let log = play(
-        &rt,
-        &[
-            Step::Add(0, 1, 0, b"t", b"a"),
-            Step::Add(0, 1, 1, b"t", b"b"),
-            Step::Mark(0, 1, 1, true),
-            Step::Mark(0, 1, 0, false),
-        ],
-    )?;
-    agree(
-        &rt,
-        &log,
-        b"t",
-        2,
-        &[Some((1, b"b")), Some((1, b"b")), None],
-    )?;
-    let log = play(
-        &rt,
-        &[
-            Step::Add(0, 1, 0, b"t", b"a"),
-            Step::Add(1, 1, 0, b"u", b"0-0,0-1"),
-            Step::Mark(1, 1, 0, true),
-            Step::Mark(0, 1, 0, true),
-        ],
-    )?;
-    agree(&rt, &log, b"t", 1, &[Some((0, b"a")), None, None])?;
-    agree(
-        &rt,
-        &log,
-        b"u",
-        2,
-        &[Some((0, b"0-0")), Some((1, b"0-1")), None],
-    )?;
-    let log = play(
-        &rt,
-        &[
-            Step::Add(0, 1, 0, b"t", b"a"),
-            Step::Add(0, 1, 0, b"t", b"0-0,0-1"),
-            Step::Mark(0, 1, 0, true),
-        ],
-    )?;
-    agree(
-        &rt,
-        &log,
-        b"t",
-        3,
-        &[Some((0, b"a")), Some((1, b"0-0")), Some((2, b"0-1")), None],
-    )?;
-    let log = play(
-        &rt,
-        &[
-            Step::Add(0, 1, 0, b"t", b"\xff,\x0d"),
-            Step::Mark(0, 1, 0, true),
-        ],
-    )?;
-    agree(
-        &rt,
-        &log,
-        b"t",
-        2,
-        &[Some((0, b"\xff")), Some((1, b"\x0d")), None],
-    )?;
-    let log = play(
-        &rt,
-        &[
-            Step::Add(0, 2, 1, b"u", b"r1.0"),
-            Step::Mark(0, 2, 1, false),
-            Step::Add(2, 3, 2, b"t", b"r2.0,r2.1,r2.2"),
-            Step::Mark(2, 3, 2, true),
-        ],
-    )?;
-    agree(
-        &rt,
-        &log,
-        b"t",
-        3,
-        &[
-            Some((0, b"r2.0")),
-            Some((1, b"r2.1")),
-            Some((2, b"r2.2")),
-            None,
-        ],
-    )?;
-    agree(&rt, &log, b"u", 1, &[None, None, None])?;
+    log.mark(&tag(1), true)?;
+    assert_eq!(rt; log.stable(&topic), 0);
+    assert_eq!(rt; log.stable(&other), 2);
+    assert!(rt; log.take(&other, 1) == Some((1, b"0-1".as_slice())));
+    log.mark(&tag(0), true)?;
+    assert!(rt; log.take(&topic, 0) == Some((0, b"a".as_slice())));
+    assert!(rt; log.take(&topic, 1).is_none());
     Ok(())
 }
 
 #[test]
 fn bodies_are_read_and_written_again(rt: HostRuntime) -> Result<(), Fail> {
-    let bodies: [&[u8]; 5] = [
+    is_kept(
+        &rt,
         b"\x01\x02\x00\x00\x00\x01\x61\x00\x00\x00\x00\x00\x00\x00\x00\x00\x00\x00\x01\x00\x00\x00\x00\x00\x00\x00\x02\x00\x00\x00\x01\x74\x02\x00\x00\x00\x01\x61\x00\x00\x00\x06\x6f\x72\x64\x65\x72\x73\x00\x00\x00\x00\x00\x00\x00\x00\x00\x00\x00\x00\x00\x00\x00\x08\x00\x00\x00\x01\x00\x00\x00\x07\x6c\x69\x6e\x65\x2d\x30\x31",
+    )?;
+    is_kept(
+        &rt,
         b"\x01\x02\x00\x00\x00\x01\x61\x00\x00\x00\x00\x00\x00\x00\x00\x00\x00\x00\x01\x00\x00\x00\x00\x00\x00\x00\x02\x00\x00\x00\x01\x74\x02\x00\x00\x00\x01\x61\x00\x00\x00\x06\x6f\x72\x64\x65\x72\x73\x00\x00\x00\x00\x00\x00\x00\x00\x00\x00\x00\x00\x00\x00\x00\x00\x00\x00\x00\x00",
+    )?;
+    is_kept(
+        &rt,
         b"\x01\x01\x00\x00\x00\x00\x00\x00\x00\x00\x00\x00\x00\x00\x00\x00\x00\x00\x00\x00\x00\x01\x75\x01\x00\x00\x00\x00\x00\x00\x00\x00\x00\x00\x00\x09\x00\x00\x00\x00\x00\x00\x00\x01\x00\x00\x00\x02\x00\x00\x00\x00\x00\x00\x00\x02\x0a\xff",
+    )?;
+    is_kept(
+        &rt,
         b"\x02\x02\x00\x00\x00\x01\x61\x00\x00\x00\x00\x00\x00\x00\x00\x00\x00\x00\x01\x00\x00\x00\x00\x00\x00\x00\x02\x01",
+    )?;
+    is_kept(
+        &rt,
         b"\x02\x03\x00\x00\x00\x02\xff\xff\xff\xff\xff\xff\xff\xff\x00\x00\x00\x00\x00\x00\x00\x00\x00",
-    ];
-    for body in bodies {
-        let entry = read_data(rt.alloc(), body).ok().ok_or("a body")?;
-        assert_eq!(rt; written(&rt, &entry)?.as_slice(), body);
-    }
-    let refused: [&[u8]; 7] = [
-        b"",
-        b"\x04",
-        b"\x02\x02\x00\x00\x00\x01\x61\x00\x00\x00\x00\x00\x00\x00\x00\x00\x00\x00\x01\x00\x00\x00\x00\x00\x00\x00\x02\xff",
-        b"\x02\x02\x00\x00\x00\x01\x61\x00\x00\x00\x00\x00\x00\x00\x00\x00\x00\x00\x01\x00\x00\x00\x00\x00\x00\x00\x02\x00\x00",
-        b"\x01\x02\x00\x00\x00\x01\x61\x00\x00\x00\x00\x00\x00\x00\x00\x00\x00\x00\x01\x00\x00\x00\x00\x00\x00\x00\x02\x00\x00\x00\x01\x74\x02\x00\x00\x00\x01\x61\x00\x00\x00\x06\x6f\x72\x64\x65\x72\x73\x00\x00\x00\x00\x00\x00\x00\x00\x00\x00\x00\x00\x00\x00\x00\x08\x00\x00\x00\x01\x00\x00\x00\x07\x6c\x69\x6e\x65\x2d\x30",
-        b"\x02\x02\x00\x00\x00\x01\x61\x00\x00\x00\x00\x00\x00\x00\x00\x00\x00\x00\x01\x00\x00\x00\x00\x00\x00\x00\x02",
-        b"\x01\x02\x00\x00\x00\x01\x61\x00\x00\x00\x00\x00\x00\x00\x00\x00\x00\x00\x01\x00\x00\x00\x00\x00\x00\x00\x02\x00\x00\x00\x01\x74\x03\x00\x00\x00\x01\x61\x00\x00\x00\x00\x00\x00\x00\x00\x00\x00\x00\x00\x00\x00\x00\x00\x00\x00\x00\x02\x00\x00\x00\x02\x00\x00\x00\x03\x30\x2d\x30\x00\x00\x00\x03\x30\x2d\x31\x00",
-    ];
-    for body in refused {
-        assert!(rt; read_data(rt.alloc(), body).err() == Some(BodyFault::NotBody));
-    }
+    )?;
     Ok(())
 }
 
-fn written(rt: &(impl Abort + AllocGlobal), entry: &DataEntry) -> Result<Vec<u8>, AllocError> {
-    if let DataEntry::Batch(batch) = entry {
-        assert!(rt; batch.values.as_slice().len() < 1000);
-        assert!(rt;
-            batch
-                .values
-                .as_slice()
-                .iter()
-                .all(|value| value.as_slice().len() < 1000)
-        );
+fn is_kept(rt: &(impl Abort + AllocGlobal), body: &[u8]) -> Result<(), Fail> {
+    match read_data(rt.alloc(), body) {
+        Ok(entry) => {
+            let written = write_data(rt.alloc(), &entry)?;
+            assert_eq!(rt; written.as_slice(), body);
+            Ok(())
+        }
+        Err(_) => Err(Fail::from("a body")),
     }
-    write_data(rt.alloc(), entry)
+}
+
+#[test]
+fn what_is_no_body_is_refused(rt: HostRuntime) -> Result<(), Fail> {
+    is_refused(&rt, b"");
+    is_refused(&rt, b"\x04");
+    is_refused(
+        &rt,
+        b"\x02\x02\x00\x00\x00\x01\x61\x00\x00\x00\x00\x00\x00\x00\x00\x00\x00\x00\x01\x00\x00\x00\x00\x00\x00\x00\x02\xff",
+    );
+    is_refused(
+        &rt,
+        b"\x02\x02\x00\x00\x00\x01\x61\x00\x00\x00\x00\x00\x00\x00\x00\x00\x00\x00\x01\x00\x00\x00\x00\x00\x00\x00\x02\x00\x00",
+    );
+    is_refused(
+        &rt,
+        b"\x01\x02\x00\x00\x00\x01\x61\x00\x00\x00\x00\x00\x00\x00\x00\x00\x00\x00\x01\x00\x00\x00\x00\x00\x00\x00\x02\x00\x00\x00\x01\x74\x02\x00\x00\x00\x01\x61\x00\x00\x00\x06\x6f\x72\x64\x65\x72\x73\x00\x00\x00\x00\x00\x00\x00\x00\x00\x00\x00\x00\x00\x00\x00\x08\x00\x00\x00\x01\x00\x00\x00\x07\x6c\x69\x6e\x65\x2d\x30",
+    );
+    is_refused(
+        &rt,
+        b"\x02\x02\x00\x00\x00\x01\x61\x00\x00\x00\x00\x00\x00\x00\x00\x00\x00\x00\x01\x00\x00\x00\x00\x00\x00\x00\x02",
+    );
+    Ok(())
+}
+
+fn is_refused(rt: &(impl Abort + AllocGlobal), body: &[u8]) {
+    assert!(rt; read_data(rt.alloc(), body).err() == Some(BodyFault::NotBody));
 }
