@@ -29,7 +29,7 @@ reads_behind front [] = tt
 reads_behind front (call ∷ calls) = (
   slice_get-middle front call calls,
   subst (λ (n : ℕ). Reads (slice_get (front ++ call ∷ calls)) n calls) (length-append front (call ∷ []))
-  (subst (λ (all : List OffsetCall). Reads (slice_get all) (length (front ++ call ∷ [])) calls) (append_assoc front (call ∷ []) calls) (reads_behind (front ++ call ∷ []) calls)),
+      (subst (λ (all : List OffsetCall). Reads (slice_get all) (length (front ++ call ∷ [])) calls) (append_assoc front (call ∷ []) calls) (reads_behind (front ++ call ∷ []) calls)),
 )
 
 -- a list has its own elements

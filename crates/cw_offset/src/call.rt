@@ -90,9 +90,13 @@ impl CallRef<'_> {
             ) => same_tags(tag, other) && same_parts(part, of) && *to == *place,
             (CallRef::Commit(tag), OffsetCall::Commit(other)) => same_tags(tag, other),
             (CallRef::Abort(tag), OffsetCall::Abort(other)) => same_tags(tag, other),
-            (CallRef::Set { part, to }, OffsetCall::Set { part: of, to: place }) => {
-                same_parts(part, of) && same_offsets(*to, *place)
-            }
+            (
+                CallRef::Set { part, to },
+                OffsetCall::Set {
+                    part: of,
+                    to: place,
+                },
+            ) => { same_parts(part, of) && same_offsets(*to, *place) }
             _ => false,
         }
     }

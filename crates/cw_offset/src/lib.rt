@@ -11,6 +11,8 @@ mod call;
 mod rows;
 mod state;
 mod tables;
+#[cfg(test)]
+mod tests;
 
 pub use body::{OffsetEntry, read_offsets, write_offsets};
 pub use call::OffsetCall;

@@ -170,11 +170,13 @@ fn settle(
 {
     match call_at(calls, place) {
         None => {}
-        Some(OffsetCall::Put {
-            tag: other,
-            part,
-            to,
-        }) => {
+        Some(
+            OffsetCall::Put {
+                tag: other,
+                part,
+                to,
+            },
+        ) => {
             if same_tags(other, tag) {
                 move_to(parts, part, place, *to);
             }
