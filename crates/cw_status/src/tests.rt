@@ -1,0 +1,65 @@
+//! Runs of statuses.
+use crate::StatusState;
+use cw_json::Text;
+use cw_keys::{State, StatusValue};
+use cw_types::{Item, Name, TaskId};
+use std::process::Abort;
+use std::test::Fail;
+
+fn status(state: State, trace: Option<Text>, round: u64) -> StatusValue {
+    StatusValue {
+        state,
+        trace,
+        worker: 1,
+        round,
+    }
+}
+
+// Whether the latest status of an item is this state in this round.
+fn expect_latest(rt: &impl Abort, statuses: &StatusState, item: &Item, state: State, round: u64) {
+    assert!(rt;
+        statuses
+            .latest(item)
+            .is_some_and(|latest| latest.state == state && latest.round == round)
+    );
+}
+
+#[test]
+fn last_record_of_an_item_counts(rt: HostRuntime) -> Result<(), Fail> {
+    let mut statuses = StatusState::new(rt.alloc());
+    let name = Name::read(rt.alloc(), b"a")?;
+    let task = Item::Task(TaskId {
+        connector: name.copy()?,
+        index: 0,
+    });
+    let connector = Item::Connector(name);
+    assert!(rt; statuses.latest(&connector).is_none());
+    statuses.apply(0, &connector, status(State::Running, None, 1))?;
+    assert!(rt; statuses.latest(&task).is_none());
+    let trace = Text::of(rt.alloc(), "Line too long at 7")?;
+    statuses.apply(1, &task, status(State::Failed, Some(trace), 1))?;
+    expect_latest(&rt, &statuses, &connector, State::Running, 1);
+    expect_latest(&rt, &statuses, &task, State::Failed, 1);
+    statuses.apply(2, &task, status(State::Running, None, 2))?;
+    statuses.apply(3, &connector, status(State::Paused, None, 2))?;
+    expect_latest(&rt, &statuses, &connector, State::Paused, 2);
+    expect_latest(&rt, &statuses, &task, State::Running, 2);
+    Ok(())
+}
+
+#[test]
+fn reserved_records_are_applied(rt: HostRuntime) -> Result<(), Fail> {
+    let mut statuses = StatusState::new(rt.alloc());
+    let connector = Item::Connector(Name::read(rt.alloc(), b"a")?);
+    let trace = Text::of(rt.alloc(), "Fenced: epoch 1, current 2")?;
+    let failed = status(State::Failed, Some(trace), 3);
+    statuses.reserve_apply(4, &connector, &failed)?;
+    statuses.reserve_apply(5, &connector, &status(State::Running, None, 3))?;
+    assert!(rt; statuses.latest(&connector).is_none());
+    statuses.apply(4, &connector, failed)?;
+    expect_latest(&rt, &statuses, &connector, State::Failed, 3);
+    statuses.unreserve();
+    statuses.apply(5, &connector, status(State::Running, None, 3))?;
+    expect_latest(&rt, &statuses, &connector, State::Running, 3);
+    Ok(())
+}
