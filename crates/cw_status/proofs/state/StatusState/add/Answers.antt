@@ -1,6 +1,6 @@
-use Rattle.std.proofs.Common.{rules, ◌∙◌, ◌++◌, ◌∷◌, [], List, sym, ap, subst, arith, vec_capacity, inl}
+use Rattle.std.proofs.Common.{◌∙◌, ◌++◌, ◌∷◌, [], List, ap, subst, arith, vec_capacity, inl}
 use Rattle.cw_status.specs.declared.record.StatusRecord.{StatusRecord}
-use Rattle.cw_status.specs.Table.{IsFirstAt, HasRow, record_of}
+use Rattle.cw_status.specs.Table.{IsFirstAt, record_of}
 use Rattle.cw_status.proofs.Added.{roomier, applied_one, without, fewer, taken_is}
 use Rattle.cw_status.proofs.state.StatusState.add.Goals as goal
 

@@ -1,4 +1,4 @@
-use Rattle.std.proofs.Common.{rules, ◌≡◌, ◌∙◌, ◌++◌, ◌∷◌, [], sym, subst, arith, vec_capacity}
+use Rattle.std.proofs.Common.{rules, ◌≡◌, ◌++◌, ◌∷◌, [], sym, subst, arith, vec_capacity}
 use Rattle.cw_status.specs.declared.record.StatusRecord.{StatusRecord}
 use Rattle.cw_status.specs.Table.{HasRow}
 use Rattle.cw_status.proofs.Added.{roomier, reserved_one}
