@@ -1,8 +1,6 @@
 -- Bodies of the offset log: what is read is spelled so, and what is spelled so is read.
-use Rattle.std.proofs.Common.{◌≡◌, ℕ, true, cond, eqb, List, [], ◌∷◌, ◌++◌, Ok, Err, ap, subst, ⊎_elim}
+use Rattle.std.proofs.Common.{◌≡◌, ℕ, true, cond, eqb, [], ◌∷◌, ◌++◌, Ok, Err, ap, subst, ⊎_elim}
 use Rattle.std.proofs.lemmas.Bool.{eqb-true}
-use Rattle.cw_types.specs.declared.ids.Tag.{Tag}
-use Rattle.cw_bytes.specs.declared.applied.Applied.{Applied}
 use Rattle.cw_bytes.specs.declared.mark.Mark.{Mark as TheMark}
 use Rattle.cw_bytes.specs.declared.fault.FieldFault.TheVariants.{BadKind}
 use Rattle.cw_bytes.specs.Unread.{Unread, AreBytes, Takes}

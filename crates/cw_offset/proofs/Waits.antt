@@ -3,11 +3,10 @@ use Rattle.std.proofs.Common.{get_or, drop, drop-cons, add-one, ◌≡◌, ℕ, 
 use Rattle.std.proofs.Math.ListN.{drop_of_length-le}
 use Rattle.std.proofs.lemmas.Option.{slice_get_within, get_or_from_slice_get}
 use Rattle.std.specs.Bool.{⊤}
-use Rattle.std.specs.List.{list_any, filter, filter_map, find, cons_option, AllByRecursion}
+use Rattle.std.specs.List.{filter, filter_map, find, cons_option, AllByRecursion}
 use Rattle.std.specs.Option.{option_or}
 use Rattle.cw_types.specs.declared.ids.Tag.{Tag}
 use Rattle.cw_types.specs.declared.verdict.Verdict.{Verdict}
-use Rattle.cw_types.specs.declared.ids.PartKey.{PartKey}
 use Rattle.cw_txn.specs.Same.{same_tag}
 use Rattle.cw_offset.specs.declared.call.OffsetCall.{OffsetCall}
 use Rattle.cw_offset.specs.declared.call.OffsetCall.TheVariants.{Put, Commit, Abort, Set}

@@ -1,5 +1,5 @@
 -- Reading a body of the offset log from left to right.
-use Rattle.std.specs.Prelude.{ℕ, ◌==◌, Ok, Err, if◌then◌else◌}
+use Rattle.std.specs.Prelude.{◌==◌, Ok, Err, if◌then◌else◌}
 use Rattle.cw_bytes.specs.declared.fault.FieldFault.TheVariants.{BadKind}
 use Rattle.cw_bytes.specs.Unread.{Unread}
 use Rattle.cw_bytes.specs.Reading.{◌>>=◌, Read, byte_at, tag_at, mark_at, records_at}

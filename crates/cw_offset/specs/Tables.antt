@@ -1,5 +1,5 @@
 -- What the tables keep of the calls, so that no look-up walks them. Internal: no public contract cites this.
-use Rattle.std.specs.Prelude.{◌≡◌, ℕ, ◌+◌, ◌≤◌, ◌<◌, Bool, true, false, ◌&&◌, List, [], ◌∷◌, ◌++◌, length, map, nat_lt, Contains, Option, None, Some, IsSome, unwrap_or, slice_get, slice_index_or, take, if◌then◌else◌}
+use Rattle.std.specs.Prelude.{◌≡◌, ℕ, ◌+◌, ◌≤◌, ◌<◌, Bool, true, false, ◌&&◌, List, [], ◌∷◌, length, nat_lt, Contains, Option, None, Some, IsSome, unwrap_or, slice_get, slice_index_or, take, if◌then◌else◌}
 use Rattle.std.specs.Bool.{⊤}
 use Rattle.std.specs.Option.{option_or}
 use Rattle.std.specs.List.{list_any}

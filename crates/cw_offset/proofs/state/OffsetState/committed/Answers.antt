@@ -1,5 +1,5 @@
-use Rattle.std.proofs.Common.{◌≡◌, ◌∙◌, sym, ap}
-use Rattle.cw_offset.specs.Tables.{settled, value_in}
+use Rattle.std.proofs.Common.{◌∙◌, sym, ap}
+use Rattle.cw_offset.specs.Tables.{value_in}
 use Rattle.cw_offset.proofs.Lasts.{committed-settled}
 use Rattle.cw_offset.proofs.state.OffsetState.committed.Goals as goal
 

@@ -1,4 +1,4 @@
-use Rattle.std.proofs.Common.{rules, ◌≡◌, ◌∙◌, ◌++◌, ◌∷◌, [], sym, subst, arith, vec_capacity}
+use Rattle.std.proofs.Common.{rules, ◌≡◌, ◌++◌, ◌∷◌, [], sym, subst, arith, vec_capacity}
 use Rattle.cw_offset.specs.declared.call.OffsetCall.{OffsetCall}
 use Rattle.cw_offset.specs.Tables.{HasRow}
 use Rattle.cw_offset.proofs.Done.{roomier, reserved_one}
