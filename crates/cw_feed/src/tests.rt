@@ -167,26 +167,28 @@ fn a_cut_has_at_most_1048576_bytes(rt: HostRuntime) -> Result<(), Fail> {
     check_cuts(&rt, alloc, &bytes, &[(0, 100, Some(983041))])
 }
 
-// Whether records have these texts.
-fn are(records: &[Vec<u8>], texts: &[&[u8]]) -> bool {
-    records.len() == texts.len()
-        && records
-            .iter()
-            .zip(texts)
-            .all(|(record, text)| record.as_slice() == *text)
+// Records one after the other, each with a bar behind it.
+fn barred(alloc: Global, records: &[Vec<u8>]) -> Result<Vec<u8>, AllocError> {
+    let mut text = Vec::new(alloc);
+    for record in records {
+        text.extend_from_slice(record)?;
+        text.push(b'|')?;
+    }
+    Ok(text)
 }
 
-// A row: from, to, and the texts between.
+// A row: from, to, and the records between.
 fn check_yields(
     rt: &impl Abort,
+    alloc: Global,
     feeds: &Feeds,
     part: &PartKey,
-    rows: &[(u64, u64, &[&[u8]])],
+    rows: &[(u64, u64, &[u8])],
 ) -> Result<(), Fail> {
-    for (from, to, texts) in rows {
+    for (from, to, records) in rows {
         assert!(rt; feeds.has_yield(part, *from, *to), "{from} {to}");
-        let records = feeds.yield_of(part, *from, *to)?;
-        assert!(rt; are(&records, texts), "{from} {to}");
+        let found = barred(alloc, &feeds.yield_of(part, *from, *to)?)?;
+        assert!(rt; found.as_slice() == *records, "{from} {to}");
     }
     Ok(())
 }
@@ -196,44 +198,37 @@ fn a_feed_yields_its_lines_without_their_ends(rt: HostRuntime) -> Result<(), Fai
     let alloc = rt.alloc();
     let part = file(alloc, b"orders")?;
     let one_two = one_feed(alloc, b"one\ntwo".to_vec(alloc)?)?;
-    let rows: [(u64, u64, &[&[u8]]); 6] = [
-        (0, 0, &[]),
-        (7, 7, &[]),
-        (9, 9, &[]),
-        (0, 4, &[b"one"]),
-        (1, 4, &[b"ne"]),
-        (3, 4, &[b""]),
+    let rows: [(u64, u64, &[u8]); 6] = [
+        (0, 0, b""),
+        (7, 7, b""),
+        (9, 9, b""),
+        (0, 4, b"one|"),
+        (1, 4, b"ne|"),
+        (3, 4, b"|"),
     ];
-    check_yields(&rt, &one_two, &part, &rows)?;
+    check_yields(&rt, alloc, &one_two, &part, &rows)?;
     for (from, to) in [(0, 3), (0, 7), (4, 8), (5, 4)] {
         assert!(rt; !one_two.has_yield(&part, from, to), "{from} {to}");
     }
     let others = one_feed(alloc, b"\n\r\n\0\n\xFF\n".to_vec(alloc)?)?;
-    let rows: [(u64, u64, &[&[u8]]); 3] = [
-        (0, 1, &[b""]),
-        (0, 3, &[b"", b"\r"]),
-        (1, 7, &[b"\r", b"\0", b"\xFF"]),
-    ];
-    check_yields(&rt, &others, &part, &rows)
+    let rows: [(u64, u64, &[u8]); 3] = [(0, 1, b"|"), (0, 3, b"|\r|"), (1, 7, b"\r|\0|\xFF|")];
+    check_yields(&rt, alloc, &others, &part, &rows)
 }
 
 #[test]
 fn a_sequence_yields_its_index_and_the_number_of_the_record(rt: HostRuntime) -> Result<(), Fail> {
     let alloc = rt.alloc();
     let feeds = one_feed(alloc, Vec::new(alloc))?;
-    let rows: [(u64, u64, &[&[u8]]); 4] = [
-        (0, 0, &[]),
-        (0, 1, &[b"0-0"]),
-        (1, 3, &[b"0-1", b"0-2"]),
-        (9, 11, &[b"0-9", b"0-10"]),
+    let rows: [(u64, u64, &[u8]); 4] = [
+        (0, 0, b""),
+        (0, 1, b"0-0|"),
+        (1, 3, b"0-1|0-2|"),
+        (9, 11, b"0-9|0-10|"),
     ];
-    check_yields(&rt, &feeds, &sequence(alloc, 0)?, &rows)?;
-    let last: [(u64, u64, &[&[u8]]); 1] = [(
-        u64::MAX - 1,
-        u64::MAX,
-        &[b"4294967295-18446744073709551614"],
-    )];
-    check_yields(&rt, &feeds, &sequence(alloc, u32::MAX)?, &last)?;
+    check_yields(&rt, alloc, &feeds, &sequence(alloc, 0)?, &rows)?;
+    let text = b"4294967295-18446744073709551614|".as_slice();
+    let last = [(u64::MAX - 1, u64::MAX, text)];
+    check_yields(&rt, alloc, &feeds, &sequence(alloc, u32::MAX)?, &last)?;
     let part = PartKey::Seq {
         connector: Name::read(alloc, b"a")?,
         index: 0,
@@ -262,8 +257,8 @@ fn feeds_are_those_of_the_shelf_or_its_fault(rt: HostRuntime) -> Result<(), Fail
     let feeds = Feeds::load(alloc, &mut shelf)?;
     assert_eq!(rt; feeds.names().len(), 2);
     assert_eq!(rt; feeds.names()[0].as_bytes(), b"a".as_slice());
-    let row: [(u64, u64, &[&[u8]]); 1] = [(0, 4, &[b"two"])];
-    check_yields(&rt, &feeds, &file(alloc, b"b")?, &row)?;
+    let row: [(u64, u64, &[u8]); 1] = [(0, 4, b"two|")];
+    check_yields(&rt, alloc, &feeds, &file(alloc, b"b")?, &row)?;
     assert_eq!(rt; cut(alloc, &feeds, b"a", 0, 1)?, CutAnswer::Cut { to: 4 });
     assert_eq!(rt; cut(alloc, &feeds, b"missing", 0, 1)?, CutAnswer::AtEnd);
     assert!(rt; !feeds.has_yield(&PartKey::Raw(0), 0, 0));
