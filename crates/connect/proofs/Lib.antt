@@ -1,5 +1,16 @@
+pub mod EventLemmas
+pub mod Bodies
+pub mod Causes
+pub mod FirstPlaces
+pub mod OneOpening
+pub mod Alike
 pub mod LineLemmas
 pub mod PlayLemmas
+pub mod EndLemmas
+pub mod PlayerLemmas
+pub mod SessionLemmas
 pub mod Numbering
 pub mod SoFar
+pub mod TellLemmas
+pub mod TopLemmas
 pub mod Safety

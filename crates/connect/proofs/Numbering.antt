@@ -1,29 +1,23 @@
--- The number of each transaction of a run is its place in the list, so none is committed twice.
-use Rattle.std.proofs.Common.{◌≡◌, ℕ, List, [], ◌∷◌, length, map, nat_eq, ◌==◌, Bool, true, false, cond, Some, None, Result, Ok, Err, OnOk, OnErr, find, All, refl, sym, subst, ◌∙◌, arith}
+-- What a commit of a script asks for is the next transaction of its producer.
+use Rattle.std.proofs.Common.{◌≡◌, ℕ, List, [], ◌∷◌, length, map, nat_eq, ◌==◌, Bool, true, false, cond, Some, None, find, All, refl, ap, ◌∙◌, arith}
 use Rattle.std.specs.List.{AllByRecursion, IsDistinct}
 use Rattle.std.proofs.lemmas.List.{length-map}
 use Rattle.std.proofs.lemmas.List.Elements.{All-cons, All-nil}
 use Rattle.std.proofs.lemmas.Bool.Decides.{nat_tests}
 use Rattle.cw_types.specs.declared.ids.PartKey.TheVariants.{Raw}
+use Rattle.cw_types.specs.declared.ids.Tid.TheVariants.{Raw as RawId}
 use Rattle.cw_types.specs.declared.ids.Span.{Span}
 use Rattle.cw_txn.specs.declared.entry.Entry.{Entry}
-use Rattle.cw_txn.specs.Transactions.{Transactions, Appends}
 use Rattle.cw_txn.specs.Same.{same_part}
 use Rattle.cw_txn.specs.History.{history, GoesOn}
-use Rattle.cw_txn.specs.Legal.{AreNumbered, IsNumberedBehind}
+use Rattle.cw_txn.specs.Legal.{epoch_of}
+use Rattle.cw_txn.specs.Allowed.{IsRaw}
 use Rattle.cw_txn.specs.Transactions.{AreNext}
-use Rattle.cw_txn.proofs.Walks.{Each-push}
 use Rattle.cw_script.specs.Pairs.{ArePairs}
 use Rattle.cw_script.specs.declared.directive.PartEnd.{PartEnd}
 use Rattle.connect.specs.declared.answer.Committing.{Committing}
 use Rattle.connect.specs.Cuts.{committing, is_bad_cut, span_of}
-
--- a coordinator that wrote an entry, or none
-pub numbered_either : {T E : Type 0} (r : Result T E) (entry : Entry) (old new : Transactions) → AreNumbered old.entries → IsNumberedBehind old.entries entry
-    → OnOk r (Appends entry old new) → OnErr r (new ≡ old) → AreNumbered new.entries
-numbered_either (Ok _) entry old new numbered here wrote same =
-    subst (λ (es : List Entry). AreNumbered es) (sym wrote.entries) (Each-push IsNumberedBehind old.entries entry numbered here)
-numbered_either (Err _) entry old new numbered here wrote same = subst (λ (t : Transactions). AreNumbered t.entries) (sym same) numbered
+use Rattle.connect.specs.Events.{IsNextOfScript}
 
 -- parts that differ as numbers differ as parts
 unequal : (n : ℕ) (pairs : List PartEnd) (entries : List Entry) → AllByRecursion (λ y. (n == y) ≡ false) (map (λ (p : PartEnd). p.part) pairs)
@@ -64,3 +58,20 @@ are_next pairs entries named none =
       distinct = distinct_spans pairs entries named.distinct;
       go_on = spans_go_on pairs entries none;
     }
+
+raw_parts : (parts : List Committing) → All IsRaw (map (λ (s : Span). s.part) (map span_of parts))
+raw_parts [] = All-nil IsRaw
+raw_parts (p ∷ ps) = All-cons IsRaw (Raw p.part) (map (λ (s : Span). s.part) (map span_of ps)) tt (raw_parts ps)
+
+-- a commit at its producer's last epoch comes next
+pub next_of_script : (id epoch : ℕ) (pairs : List PartEnd) (entries : List Entry) → ArePairs pairs → epoch ≡ epoch_of (RawId id) entries
+    → find is_bad_cut (map (committing entries) pairs) ≡ None
+    → IsNextOfScript entries (record { tid = RawId id; epoch = record { 0 = epoch }; number = length entries }) (map span_of (map (committing entries) pairs))
+next_of_script id epoch pairs entries named current none = record {
+  id = id;
+  raw = refl;
+  current = current;
+  number = refl;
+  parts = raw_parts (map (committing entries) pairs);
+  next = are_next pairs entries named none;
+}

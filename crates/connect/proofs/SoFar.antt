@@ -1,73 +1,29 @@
 -- A drive so far: what was read and written, and what the session has still to play.
-use Rattle.std.proofs.Common.{◌≡◌, ℕ, ◌+◌, List, [], ◌++◌, Bool, true, false, Option, Some, None, Result, Ok, Err, OnOk, IfErr, refl, sym, ap, subst, ◌∙◌, arith, append_assoc, inl, inr, ◌⊎◌}
-use Rattle.std.specs.Option.{option_map}
-use Rattle.std.proofs.lemmas.List.{append-nil}
+use Rattle.std.proofs.Common.{◌≡◌, ◌⊎◌, ⊎_elim, inl, inr, ◌≤◌, ℕ, ◌+◌, List, [], ◌∷◌, ◌++◌, length, take, Bool, true, false, Option, Some, None, Result, Ok, Err, OnOk, IfErr, option_map, refl, sym, ap, subst, ◌∙◌, arith, append_assoc}
+use Rattle.std.proofs.lemmas.List.{append-nil, take_all}
 use Rattle.std.proofs.lemmas.Grind.{common_steps}
+use Rattle.cw_disk.specs.Disk.{Adds}
+use Rattle.cw_disk.proofs.Moments.{adds_weaker, adds_then}
+use Rattle.cw_io.specs.Written.{IsWrittenInPart}
+use Rattle.cw_types.specs.Faults.{Rose}
+use Rattle.cw_types.specs.declared.logs.DiskName.TheVariants.{Txn}
+use Rattle.cw_disk.specs.declared.device.Disk.{Ghosts}
 use Rattle.connect.specs.declared.session.Session.{Session}
 use Rattle.connect.specs.declared.status.Status.{Status}
-use Rattle.connect.specs.declared.status.Status.TheVariants.{Done, Usage, BadScript, TooLong, ReadFault, WriteFault, Memory}
+use Rattle.connect.specs.declared.status.Status.TheVariants.{Done, Usage, BadScript, TooLong, ReadFault, WriteFault, StoreFault, Damaged, Full, Memory}
 use Rattle.connect.specs.Lines.{lines_of}
-use Rattle.connect.specs.Run.{Played, passed, with_front, play, run, run_so_far}
-use Rattle.connect.specs.Outcomes.{IsPrefix, Plays, IsDue, Drives}
-use Rattle.connect.specs.Sessions.{resumed, Stops, IsFresh}
-use Rattle.connect.specs.Drives.{Writes, PlaysPiece, Fails, EndsInPiece, Finishes, EndsAtEnd}
-use Rattle.connect.specs.Players.{PlayerState}
+use Rattle.connect.specs.Run.{Played, passed, with_front, play, run, run_so_far, behind_lines}
+use Rattle.connect.specs.Statuses.{is_own}
+use Rattle.connect.specs.Store.{Store, Kept, IsImage, store_of}
+use Rattle.connect.specs.Outcomes.{Plays, PlaysPart, PlaysUpTo, IsDue, Drives}
+use Rattle.connect.specs.Sessions.{IsPrefix, resumed, resumed_by, Goes, IsBehind, Moves, MovesLast, EndsOwn, EndsCut, EndsBroken, Ends, HasRisen, Stops, Finishes, IsFresh}
+use Rattle.connect.specs.Sessions.Ends.{own, cut, broken}
+use Rattle.connect.specs.Drives.{Writes, PlaysPiece, EndsInPiece, EndsDone, EndsLast, EndsAtEnd, Caused}
+use Rattle.connect.specs.Players.{PlayerState, IsTold, IsAt, LeavesEither}
 use Rattle.connect.proofs.PlayLemmas.{with_front-twice, play-begun}
+use Rattle.connect.proofs.EndLemmas.{prefix_then, prefix_same, ends_then, goes_none, goes_then, moves_none, moves_then, stops_then}
 
-pub prefix_then : (a b c : List ℕ) → IsPrefix a b → IsPrefix b c → IsPrefix a c
-prefix_then a b c one two = record { rest = one.rest ++ two.rest; split = two.split ∙ ap (λ (t : List ℕ). t ++ two.rest) one.split ∙ append_assoc a one.rest two.rest }
-
-pub prefix_behind : (front a b : List ℕ) → IsPrefix a b → IsPrefix (front ++ a) (front ++ b)
-prefix_behind front a b one = record { rest = one.rest; split = ap (λ (t : List ℕ). front ++ t) one.split ∙ sym (append_assoc front a one.rest) }
-
-stops_prefix : (status : Status) (text : List ℕ) (p : Played) → Stops status text p → IsPrefix text p.text
-stops_prefix (BadScript line kind) text p did = record { rest = []; split = did.1 ∙ sym (append-nil text) }
-stops_prefix (TooLong count) text p did = record { rest = []; split = did.1 ∙ sym (append-nil text) }
-stops_prefix Memory text p did = did
-stops_prefix Done text p did = absurd did
-stops_prefix Usage text p did = absurd did
-stops_prefix ReadFault text p did = absurd did
-stops_prefix WriteFault text p did = absurd did
-
--- whatever feeding a piece gave, the answers held are those of a first part
-pub fed_prefix : (r : Result (Unit {0}) Status) (piece : List ℕ) (old new : Session)
-    → OnOk r ((ended : Bool) (more : List ℕ) → resumed ended more new ≡ resumed ended (piece ++ more) old)
-    → IfErr r (λ status. (ended : Bool) (more : List ℕ) → Stops status new.player.text (resumed ended (piece ++ more) old))
-    → (ended : Bool) (more : List ℕ) → IsPrefix new.player.text (resumed ended (piece ++ more) old).text
-fed_prefix (Ok _) piece old new go stop ended more =
-    subst (λ (p : Played). IsPrefix new.player.text p.text) (go ended more) (record { rest = (play ended (new.count + 1) (lines_of (new.pending.items ++ more)) new.player.entries).text; split = refl })
-fed_prefix (Err status) piece old new go stop ended more = stops_prefix status new.player.text (resumed ended (piece ++ more) old) (stop ended more)
-
-pub finished_prefix : (r : Result (Unit {0}) Status) (p : Played) (text : List ℕ) → OnOk r (Plays p None text) → IfErr r (λ status. Stops status text p) → IsPrefix text p.text
-finished_prefix (Ok _) p text go stop = record { rest = []; split = go.1 ∙ sym (append-nil text) }
-finished_prefix (Err status) p text go stop = stops_prefix status text p stop
-
-pub stops_fail : (status : Status) (text : List ℕ) (p : Played) → Stops status text p → Fails status text p
-stops_fail (BadScript line kind) text p did = did
-stops_fail (TooLong count) text p did = did
-stops_fail Memory text p did = did
-stops_fail Done text p did = did
-stops_fail Usage text p did = did
-stops_fail ReadFault text p did = did
-stops_fail WriteFault text p did = absurd did
-
--- feeding a piece never answers a failed write
-pub never_write : (P : Type 0) (r : Result (Unit {0}) Status) (text : List ℕ) (p : Bool → List ℕ → Played)
-    → IfErr r (λ status. (ended : Bool) (more : List ℕ) → Stops status text (p ended more)) → IfErr r (λ status. status ≡ WriteFault → P)
-never_write P (Ok _) text p stop = tt
-never_write P (Err status) text p stop = λ is. absurd (subst (λ (s : Status). Stops s text (p true [])) is (stop true []))
-
-pub record SoFar (bytes : List ℕ) (left before after : Option (List ℕ)) (session : Session) : Type 0 where
-  pub taken : List ℕ
-  pub rest : List ℕ
-  pub text : List ℕ
-  pub split : bytes ≡ taken ++ rest
-  pub left_over : left ≡ Some rest
-  pub written : Writes text before after
-  pub silent : session.player.text ≡ []
-  pub same : (ended : Bool) (more : List ℕ) → play ended 1 (lines_of (taken ++ more)) [] ≡ with_front text (resumed ended more session)
-
-writes_none : (o : Option (List ℕ)) → Writes [] o o
+pub writes_none : (o : Option (List ℕ)) → Writes [] o o
 writes_none None = refl
 writes_none (Some held) = ap Some (sym (append-nil held))
 
@@ -75,137 +31,355 @@ pub writes_then : (a b : List ℕ) (o p q : Option (List ℕ)) → Writes a o p 
 writes_then a b None p q one two = two ∙ ap (option_map (λ held. held ++ b)) one
 writes_then a b (Some held) p q one two = two ∙ ap (option_map (λ h. h ++ b)) one ∙ ap Some (append_assoc held a b)
 
--- what is left behind a piece that was read
-some_left : (piece rest : List ℕ) (left left' : Option (List ℕ)) → left ≡ Some rest → left ≡ option_map (λ r. piece ++ r) left'
-    → (r : List ℕ) × (left' ≡ Some r) × (rest ≡ piece ++ r)
-some_left piece rest left None is read = let wrong = sym is ∙ read in cc
-some_left piece rest left (Some r) is read = let same = sym is ∙ read in (r, refl, cc)
+-- what was taken from the input
+abbrev pub Takes : List ℕ → (before after : Option (List ℕ)) → Type 0
+Takes bytes before after = before ≡ option_map (λ rest. bytes ++ rest) after
 
-fresh_play : (ended : Bool) (more : List ℕ) → PlayerState → ℕ → List ℕ → Played
-fresh_play ended more player count pending = with_front player.text (play ended (count + 1) (lines_of (pending ++ more)) player.entries)
+takes_none : (o : Option (List ℕ)) → Takes [] o o
+takes_none None = refl
+takes_none (Some rest) = refl
 
-module _ (bytes : List ℕ) (before : Option (List ℕ)) where
-  pub started : (session : Session) → IsFresh session → (left : Option (List ℕ)) → left ≡ Some bytes → SoFar bytes left before before session
-  unfolding fresh_play
-  started session fresh left is = record {
+pub takes_same : (before after : Option (List ℕ)) → after ≡ before → Takes [] before after
+takes_same before after same = sym same ∙ takes_none after
+
+takes_then : (a b : List ℕ) (o p q : Option (List ℕ)) → Takes a o p → Takes b p q → Takes (a ++ b) o q
+takes_then a b o p None one two = one ∙ ap (option_map (λ rest. a ++ rest)) two
+takes_then a b o p (Some rest) one two = one ∙ ap (option_map (λ r. a ++ r)) two ∙ ap Some (sym (append_assoc a b rest))
+
+-- what is left of the input
+pub record Left (bytes taken : List ℕ) (left : Option (List ℕ)) : Type 0 where
+  pub rest : List ℕ
+  pub split : bytes ≡ taken ++ rest
+  pub left_over : left ≡ Some rest
+
+left_of : (bytes taken : List ℕ) (before after : Option (List ℕ)) → before ≡ Some bytes → Takes taken before after → Left bytes taken after
+left_of bytes taken before None told took = let wrong = sym took ∙ told in cc
+left_of bytes taken before (Some rest) told took = let same = sym told ∙ took in record { rest = rest; split = cc; left_over = refl }
+
+-- a run that was cut is no longer
+pub steps_all : {D : Type 0} {d : Ghosts D} (bytes : List ℕ) (session : Session D d) → resumed_by (length (lines_of (session.pending.items ++ bytes))) bytes session ≡ resumed true bytes session
+steps_all bytes session =
+    ap (λ (ls : List (List ℕ)). with_front session.player.text (play true (session.count + 1) ls (store_of session.player.kept)))
+    (take_all (length (lines_of (session.pending.items ++ bytes))) (lines_of (session.pending.items ++ bytes)) (omega arith))
+
+module _ (at : Store → Type 0) (between : Store → Store → Type 0) (failed : ℕ → Type 0) (unwritten : Type 0) where
+  -- the store is that behind some lines where the disk didn't fail
+  module _ (status : Status) (steps : ℕ → Played) (whole : Played) (text : List ℕ) (all : ℕ) (is_all : steps all ≡ whole) where
+    -- answers of which a first part was written
+    pub ends_unwritten : (part : List ℕ) → IsPrefix part text → unwritten → ((disk : _) (count : ℕ) → status ≡ StoreFault disk count → ⊥)
+        → Ends at between failed ⊥ status steps whole text → Ends at between failed unwritten WriteFault steps whole part
+    ends_unwritten part begins rose calm (own e) = cut (record {
+      cause = inr (refl, rose);
+      lines = all;
+      part = prefix_then part text (steps all).text begins (prefix_same text (steps all).text (sym e.said ∙ sym (ap (λ (p : Played). p.text) is_all)));
+      first = prefix_then part text whole.text begins (prefix_same text whole.text (sym e.said));
+      left = subst at (sym (ap (λ (p : Played). p.store) is_all)) e.left;
+    })
+    ends_unwritten part begins rose calm (cut e) = cut (record {
+      cause = inr (refl, rose);
+      lines = e.lines;
+      part = prefix_then part text (steps e.lines).text begins e.part;
+      first = prefix_then part text whole.text begins e.first;
+      left = e.left;
+    })
+    ends_unwritten part begins rose calm (broken e) = absurd (calm Txn e.count e.fault)
+
+    -- or all of them
+    pub ends_written : Ends at between failed ⊥ status steps whole text → Ends at between failed unwritten status steps whole text
+    ends_written (own e) = own e
+    ends_written (cut e) = cut (record { cause = ⊎_elim (λ memory. inl memory) (λ w. absurd w.1) e.cause; lines = e.lines; part = e.part; first = e.first; left = e.left })
+    ends_written (broken e) = broken (record { count = e.count; fault = e.fault; risen = e.risen; lines = e.lines; part = e.part; exact = ⊎_elim (λ is. inl is) (λ w. absurd w) e.exact; left = e.left })
+
+    -- the disk failed, and writing failed too
+    pub ends_both : (part : List ℕ) → IsPrefix part text → unwritten → (disk : _) (count : ℕ) → status ≡ StoreFault disk count
+        → Ends at between failed ⊥ status steps whole text → Ends at between failed unwritten status steps whole part
+    ends_both part begins rose disk count is (own e) = absurd (let wrong : true ≡ false = sym e.own ∙ ap is_own is in cc)
+    ends_both part begins rose disk count is (cut e) = absurd (⊎_elim (λ memory. let wrong = sym is ∙ memory in cc) (λ w. w.1) e.cause)
+    ends_both part begins rose disk count is (broken e) = broken (record {
+      count = e.count;
+      fault = e.fault;
+      risen = e.risen;
+      lines = e.lines;
+      part = prefix_then part text (steps e.lines).text begins e.part;
+      exact = inr rose;
+      left = e.left;
+    })
+
+  -- what is due at each end
+  module _ (store : Store) (bytes taken rest text : List ℕ) where
+    own_due : (status : Status) → is_own status ≡ true → Plays (run store bytes) (Some status) text at → IsDue status store bytes taken rest text unwritten at between
+    own_due (BadScript line kind) mine plays = plays
+    own_due (TooLong count) mine plays = plays
+    own_due (Full log length frame) mine plays = plays
+    own_due Done mine plays = absurd (let wrong : false ≡ true = mine in cc)
+    own_due Usage mine plays = absurd (let wrong : false ≡ true = mine in cc)
+    own_due ReadFault mine plays = absurd (let wrong : false ≡ true = mine in cc)
+    own_due WriteFault mine plays = absurd (let wrong : false ≡ true = mine in cc)
+    own_due (StoreFault disk count) mine plays = absurd (let wrong : false ≡ true = mine in cc)
+    own_due (Damaged disk at harm) mine plays = absurd (let wrong : false ≡ true = mine in cc)
+    own_due Memory mine plays = absurd (let wrong : false ≡ true = mine in cc)
+
+    pub ends_due : (status : Status) → Ends at between failed unwritten status (λ k. behind_lines k bytes store) (run store bytes) text → IsDue status store bytes taken rest text unwritten at between
+    ends_due status (own e) = own_due status e.own (record { ends = e.stop; said = e.said; left = e.left })
+    ends_due status (cut e) =
+        let part : PlaysPart store bytes text at = record { first = e.first; lines = e.lines; part = e.part; left = e.left } in
+        ⊎_elim (λ memory. subst (λ (s : Status). IsDue s store bytes taken rest text unwritten at between) (sym memory) part)
+        (λ w. subst (λ (s : Status). IsDue s store bytes taken rest text unwritten at between) (sym w.0) part) e.cause
+    ends_due status (broken e) =
+        subst (λ (s : Status). IsDue s store bytes taken rest text unwritten at between) (sym e.fault) (record { lines = e.lines; part = e.part; exact = e.exact; left = e.left })
+
+-- what rose at each end
+module _ (in_before in_after out_before out_after before after : ℕ) where
+  own_caused : (status : Status) → is_own status ≡ true → Caused in_before in_after out_before out_after before after status
+  own_caused (BadScript line kind) mine = tt
+  own_caused (TooLong count) mine = tt
+  own_caused (Full log length frame) mine = tt
+  own_caused Done mine = tt
+  own_caused Usage mine = absurd (let wrong : false ≡ true = mine in cc)
+  own_caused ReadFault mine = absurd (let wrong : false ≡ true = mine in cc)
+  own_caused WriteFault mine = absurd (let wrong : false ≡ true = mine in cc)
+  own_caused (StoreFault disk count) mine = absurd (let wrong : false ≡ true = mine in cc)
+  own_caused (Damaged disk at harm) mine = absurd (let wrong : false ≡ true = mine in cc)
+  own_caused Memory mine = tt
+
+  pub ends_caused : (at : Store → Type 0) (between : Store → Store → Type 0) (unwritten : Type 0) (status : Status) (steps : ℕ → Played) (whole : Played) (text : List ℕ)
+      → (unwritten → Rose out_before out_after) → Ends at between (HasRisen before after) unwritten status steps whole text → Caused in_before in_after out_before out_after before after status
+  ends_caused at between unwritten status steps whole text rose (own e) = own_caused status e.own
+  ends_caused at between unwritten status steps whole text rose (cut e) =
+      ⊎_elim (λ memory. subst (λ (s : Status). Caused in_before in_after out_before out_after before after s) (sym memory) tt)
+      (λ w. subst (λ (s : Status). Caused in_before in_after out_before out_after before after s) (sym w.0) (rose w.1)) e.cause
+  ends_caused at between unwritten status steps whole text rose (broken e) =
+      subst (λ (s : Status). Caused in_before in_after out_before out_after before after s) (sym e.fault) (refl, e.risen)
+
+-- a session that has taken nothing plays the whole script
+module _ {D : Type 0} {d : Ghosts D} (session : Session D d) (fresh : IsFresh session.player.kept session) where
+  abbrev over : PlayerState D → ℕ → List ℕ → (ℕ → List ℕ → Store → Played) → Played
+  over player count pending rest = with_front player.text (rest (count + 1) pending (store_of player.kept))
+
+  from_start : (rest : ℕ → List ℕ → Store → Played) → over session.player session.count session.pending.items rest ≡ rest 1 [] (store_of session.player.kept)
+  from_start rest =
+      ap (λ (p : PlayerState D). over p session.count session.pending.items rest) fresh.player
+      ∙ ap (λ (n : ℕ). over (record { kept = session.player.kept; text = [] }) n session.pending.items rest) fresh.count
+      ∙ ap (λ (b : List ℕ). over (record { kept = session.player.kept; text = [] }) 0 b rest) fresh.pending
+
+  pub fresh_run : (ended : Bool) (bytes : List ℕ) → resumed ended bytes session ≡ play ended 1 (lines_of bytes) (store_of session.player.kept)
+  fresh_run ended bytes = from_start (λ n pending st. play ended n (lines_of (pending ++ bytes)) st)
+
+  pub fresh_lines : (k : ℕ) (bytes : List ℕ) → resumed_by k bytes session ≡ behind_lines k bytes (store_of session.player.kept)
+  fresh_lines k bytes = from_start (λ n pending st. play true n (take k (lines_of (pending ++ bytes))) st)
+
+pub record SoFar {D : Type 0} {d : Ghosts D} (moment : D → ℕ) (left_since : D → ℕ → List ℕ → Type 0) (count : D → ℕ) (start session : Session D d) (left0 left before after : Option (List ℕ)) : Type 0 where
+  pub taken : List ℕ
+  pub text : List ℕ
+  pub took : Takes taken left0 left
+  pub written : Writes text before after
+  pub silent : session.player.text ≡ []
+  pub goes : Goes taken text start session
+  pub moves : Moves moment left_since count taken start session.player.kept
+
+module _ {D : Type 0} {d : Ghosts D} (moment : D → ℕ) (left_since : D → ℕ → List ℕ → Type 0) (may_leave : D → List ℕ → Type 0) (count : D → ℕ) (start : Session D d)
+    (alive : start.player.kept.log.shut ≡ false) (fresh : IsFresh start.player.kept start) (left0 before : Option (List ℕ)) where
+  pub started : SoFar moment left_since count start start left0 left0 before before
+  started = record {
     taken = [];
-    rest = bytes;
     text = [];
-    split = refl;
-    left_over = is;
+    took = takes_none left0;
     written = writes_none before;
-    silent = ap (λ (p : PlayerState). p.text) fresh.player;
-    same = λ ended more. sym (ap (λ (p : PlayerState). fresh_play ended more p session.count session.pending.items) fresh.player
-        ∙ ap (λ (n : ℕ). fresh_play ended more (record { entries = []; text = [] }) n session.pending.items) fresh.count
-        ∙ ap (λ (p : List ℕ). fresh_play ended more (record { entries = []; text = [] }) 0 p) fresh.pending);
+    silent = ap (λ (p : PlayerState D). p.text) fresh.player;
+    goes = goes_none start alive;
+    moves = moves_none moment left_since count [] start start.player.kept refl;
   }
 
-  module _ (left after : Option (List ℕ)) (session : Session) (far : SoFar bytes left before after session) where
-    module _ (piece : List ℕ) (left' : Option (List ℕ)) (read : left ≡ option_map (λ r. piece ++ r) left') where
-      split_on : (r : List ℕ) → far.rest ≡ piece ++ r → bytes ≡ (far.taken ++ piece) ++ r
-      split_on r is = far.split ∙ ap (λ (t : List ℕ). far.taken ++ t) is ∙ sym (append_assoc far.taken piece r)
+  -- moments of the whole script
+  moments_of : (bytes taken rest : List ℕ) (new : Kept D) → bytes ≡ taken ++ rest → Moves moment left_since count taken start new → IsTold start.player.kept
+      → Adds moment left_since start.player.kept.log.disk new.log.disk (IsBehind (λ k. behind_lines k bytes (store_of start.player.kept)))
+  moments_of bytes taken rest new split moves told =
+      adds_weaker moment left_since start.player.kept.log.disk new.log.disk _ (IsBehind (λ k. behind_lines k bytes (store_of start.player.kept))) (moves.moments told rest)
+      (λ image was. record {
+        lines = was.lines;
+        stands = subst (λ (s : Store). IsImage s image)
+            (ap (λ (p : Played). p.store) (ap (λ (l : List ℕ). resumed_by was.lines l start) (sym split) ∙ fresh_lines start fresh was.lines bytes)) was.stands;
+      })
 
-      pub next : (after' : Option (List ℕ)) (session' : Session) → PlaysPiece piece session session' after after' → SoFar bytes left' before after' session'
-      next after' session' played =
-          let behind = some_left piece far.rest left left' far.left_over read in
+  module _ (session : Session D d) (left after : Option (List ℕ)) (far : SoFar moment left_since count start session left0 left before after) where
+    pub next : (piece : List ℕ) (left' after' : Option (List ℕ)) (session' : Session D d) → Takes piece left left' → PlaysPiece piece session session' after after'
+        → Moves moment left_since count piece session session'.player.kept → SoFar moment left_since count start session' left0 left' before after'
+    next piece left' after' session' took played moved = record {
+      taken = far.taken ++ piece;
+      text = far.text ++ played.text;
+      took = takes_then far.taken piece left0 left left' far.took took;
+      written = writes_then far.text played.text before after after' far.written played.written;
+      silent = played.silent;
+      goes = goes_then far.taken piece far.text played.text start session session' far.goes played.goes;
+      moves = moves_then moment left_since count far.taken piece far.text start session session'.player.kept far.goes far.moves moved;
+    }
+
+    pub moments_so_far : (piece : List ℕ) (left' : Option (List ℕ)) (new : Kept D) → Takes piece left left' → Moves moment left_since count piece session new
+        → (bytes : List ℕ) → left0 ≡ Some bytes → IsTold start.player.kept
+        → Adds moment left_since start.player.kept.log.disk new.log.disk (IsBehind (λ k. behind_lines k bytes (store_of start.player.kept)))
+    moments_so_far piece left' new took moved bytes told disk_told =
+        let over = left_of bytes (far.taken ++ piece) left0 left' told (takes_then far.taken piece left0 left left' far.took took) in
+        moments_of bytes (far.taken ++ piece) over.rest new over.split (moves_then moment left_since count far.taken piece far.text start session new far.goes far.moves moved) disk_told
+
+    module _ (unwritten unwritten' : Type 0) (to_unwritten : unwritten → unwritten') (new : Kept D) where
+      -- a piece ended it
+      pub ended_in : (status : Status) (piece : List ℕ) (left' after' : Option (List ℕ)) → Takes piece left left' → (text : List ℕ) → Writes text after after'
+          → ((rest : List ℕ) → left' ≡ Some rest → Stops may_leave count unwritten status (piece ++ rest) text session new) → (bytes : List ℕ) → left0 ≡ Some bytes
+          → Drives status (store_of start.player.kept) bytes left' before after' unwritten' (IsAt new) (λ a b. IsTold start.player.kept → LeavesEither may_leave new a b)
+      ended_in status piece left' after' took text wrote stops bytes told =
+          let over = left_of bytes (far.taken ++ piece) left0 left' told (takes_then far.taken piece left0 left left' far.took took) in
           record {
             taken = far.taken ++ piece;
-            rest = behind.0;
-            text = far.text ++ played.text;
-            split = split_on behind.0 behind.2;
-            left_over = behind.1;
-            written = writes_then far.text played.text before after after' far.written played.written;
-            silent = played.silent;
-            same = λ ended more.
-                ap (λ (t : List ℕ). play ended 1 (lines_of t) []) (append_assoc far.taken piece more)
-                ∙ far.same ended (piece ++ more)
-                ∙ ap (with_front far.text) (played.same ended more)
-                ∙ with_front-twice far.text played.text (resumed ended more session');
-          }
-
-      -- all that was read and is left, played from here on
-      whole : (r : List ℕ) → far.rest ≡ piece ++ r → run bytes ≡ with_front far.text (resumed true (piece ++ r) session)
-      whole r is =
-          ap (λ (t : List ℕ). play true 1 (lines_of t) []) (far.split ∙ ap (λ (t : List ℕ). far.taken ++ t) is) ∙ far.same true (piece ++ r)
-
-      pub ended_in : (status : Status) (after' : Option (List ℕ)) → EndsInPiece status piece session after after' → Drives status bytes left' before after'
-      ended_in status after' did =
-          let behind = some_left piece far.rest left left' far.left_over read in
-          record {
-            taken = far.taken ++ piece;
-            rest = behind.0;
-            text = far.text ++ did.text;
-            split = split_on behind.0 behind.2;
-            left_over = behind.1;
-            written = writes_then far.text did.text before after after' far.written did.written;
-            due = fails_due status (resumed true (piece ++ behind.0) session) did.text behind.0 (whole behind.0 behind.2) (did.due true behind.0);
-          }
-        where
-          fails_due : (status : Status) (p : Played) (text rest : List ℕ) → run bytes ≡ with_front far.text p → Fails status text p → IsDue status bytes (far.taken ++ piece) rest (far.text ++ text)
-          fails_due (BadScript line kind) p text rest is did = (ap (λ (q : Played). q.stop) is ∙ did.0, ap (λ (q : Played). q.text) is ∙ ap (λ (t : List ℕ). far.text ++ t) did.1)
-          fails_due (TooLong count) p text rest is did = (ap (λ (q : Played). q.stop) is ∙ did.0, ap (λ (q : Played). q.text) is ∙ ap (λ (t : List ℕ). far.text ++ t) did.1)
-          fails_due WriteFault p text rest is did = subst (λ (q : Played). IsPrefix (far.text ++ text) q.text) (sym is) (prefix_behind far.text text p.text did)
-          fails_due Memory p text rest is did = subst (λ (q : Played). IsPrefix (far.text ++ text) q.text) (sym is) (prefix_behind far.text text p.text did)
-          fails_due Done p text rest is did = absurd did
-          fails_due Usage p text rest is did = absurd did
-          fails_due ReadFault p text rest is did = absurd did
-
-      pub at_end : (status : Status) (after' : Option (List ℕ)) → piece ≡ [] → far.rest ≡ [] → EndsAtEnd status session after after' → Drives status bytes left' before after'
-      at_end status after' empty end did =
-          let behind = some_left piece far.rest left left' far.left_over read in
-          let nothing : behind.0 ≡ [] = sym (ap (λ (p : List ℕ). p ++ behind.0) empty) ∙ sym behind.2 ∙ end in
-          let all : run bytes ≡ with_front far.text (resumed true [] session) =
-          whole behind.0 behind.2 ∙ ap (λ (t : List ℕ). with_front far.text (resumed true t session)) (sym behind.2 ∙ end) in
-          record {
-            taken = far.taken ++ piece;
-            rest = behind.0;
-            text = far.text ++ did.text;
-            split = split_on behind.0 behind.2;
-            left_over = behind.1;
-            written = writes_then far.text did.text before after after' far.written did.written;
-            due = finish_due status (resumed true [] session) did.text behind.0 nothing all did.due;
+            rest = over.rest;
+            text = far.text ++ text;
+            split = over.split;
+            left_over = over.left_over;
+            written = writes_then far.text text before after after' far.written wrote;
+            due = ends_due (IsAt new) (λ a b. IsTold start.player.kept → LeavesEither may_leave new a b) (HasRisen (count start.player.kept.log.disk) (count new.log.disk)) unwritten'
+                (store_of start.player.kept) bytes (far.taken ++ piece) over.rest (far.text ++ text) status
+                (ends_then (IsAt new) (IsAt new) (λ a b. IsTold start.player.kept → LeavesEither may_leave new a b) (λ a b. IsTold start.player.kept → LeavesEither may_leave new a b)
+                (HasRisen (count start.player.kept.log.disk) (count new.log.disk)) (HasRisen (count start.player.kept.log.disk) (count new.log.disk)) unwritten' unwritten'
+                (λ st is. is) (λ a b is. is) (λ n is. is) (λ is. is)
+                status (λ k. resumed_by k (far.taken ++ (piece ++ over.rest)) start) (λ k. behind_lines k bytes (store_of start.player.kept))
+                (resumed true (far.taken ++ (piece ++ over.rest)) start) (run (store_of start.player.kept) bytes) [] (far.text ++ text)
+                0 (λ k. same_lines (k + 0) k (omega arith) bytes over.rest over.split) (same_run bytes over.rest over.split)
+                (stops_then moment left_since may_leave count unwritten unwritten' to_unwritten status far.taken (piece ++ over.rest) far.text text start session new far.goes far.moves (stops over.rest over.left_over)));
           }
         where
-          finish_due : (status : Status) (p : Played) (text rest : List ℕ) → rest ≡ [] → run bytes ≡ with_front far.text p → Finishes status text p → IsDue status bytes (far.taken ++ piece) rest (far.text ++ text)
-          finish_due Done p text rest none is did = (none, (ap (λ (q : Played). q.stop) is ∙ did.0, ap (λ (q : Played). q.text) is ∙ ap (λ (t : List ℕ). far.text ++ t) did.1))
-          finish_due (BadScript line kind) p text rest none is did = (ap (λ (q : Played). q.stop) is ∙ did.0, ap (λ (q : Played). q.text) is ∙ ap (λ (t : List ℕ). far.text ++ t) did.1)
-          finish_due (TooLong count) p text rest none is did = (ap (λ (q : Played). q.stop) is ∙ did.0, ap (λ (q : Played). q.text) is ∙ ap (λ (t : List ℕ). far.text ++ t) did.1)
-          finish_due WriteFault p text rest none is did = subst (λ (q : Played). IsPrefix (far.text ++ text) q.text) (sym is) (prefix_behind far.text text p.text did)
-          finish_due Memory p text rest none is did = subst (λ (q : Played). IsPrefix (far.text ++ text) q.text) (sym is) (prefix_behind far.text text p.text did)
-          finish_due Usage p text rest none is did = absurd did
-          finish_due ReadFault p text rest none is did = absurd did
+          again : (bytes rest : List ℕ) → bytes ≡ (far.taken ++ piece) ++ rest → bytes ≡ far.taken ++ (piece ++ rest)
+          again bytes rest split = split ∙ append_assoc far.taken piece rest
 
-    -- a read that failed took nothing
-    pub read_failed : (left' : Option (List ℕ)) → left' ≡ left → Drives ReadFault bytes left' before after
-    read_failed left' kept =
-        let quiet : resumed false [] session ≡ with_front [] (passed session.player.entries) =
-        ap (λ (p : Played). with_front session.player.text p) (play-begun (session.count + 1) session.pending.items session.player.entries session.unended (λ some. omega (arith, session.begun (grind (arith, common_steps)))) (grind (arith, common_steps)))
-        ∙ ap (λ (t : List ℕ). with_front t (passed session.player.entries)) far.silent in
-        let all : run_so_far far.taken ≡ with_front far.text (with_front [] (passed session.player.entries)) =
-        ap (λ (t : List ℕ). play false 1 (lines_of t) []) (sym (append-nil far.taken)) ∙ far.same false [] ∙ ap (with_front far.text) quiet in
-        record {
-          taken = far.taken;
-          rest = far.rest;
-          text = far.text;
-          split = far.split;
-          left_over = kept ∙ far.left_over;
-          written = far.written;
-          due = (ap (λ (p : Played). p.stop) all, ap (λ (p : Played). p.text) all ∙ append-nil far.text);
-        }
+          same_lines : (m k : ℕ) → m ≡ k → (bytes rest : List ℕ) → bytes ≡ (far.taken ++ piece) ++ rest
+              → behind_lines m bytes (store_of start.player.kept) ≡ with_front [] (resumed_by k (far.taken ++ (piece ++ rest)) start)
+          same_lines m k is bytes rest split =
+              ap (λ (n : ℕ). behind_lines n bytes (store_of start.player.kept)) is ∙ sym (fresh_lines start fresh k bytes) ∙ ap (λ (l : List ℕ). resumed_by k l start) (again bytes rest split)
 
--- a piece never ends a drive for its words or its input
-pub never_so : (status other : Status) (piece : List ℕ) (old : Session) (before after : Option (List ℕ)) → EndsInPiece status piece old before after → status ≡ other
-    → ((text : List ℕ) (p : Played) → Fails other text p → ⊥) → ⊥
-never_so status other piece old before after did is none =
-    none did.text (resumed true (piece ++ []) old) (subst (λ (s : Status). Fails s did.text (resumed true (piece ++ []) old)) is (did.due true []))
+          same_run : (bytes rest : List ℕ) → bytes ≡ (far.taken ++ piece) ++ rest → run (store_of start.player.kept) bytes ≡ with_front [] (resumed true (far.taken ++ (piece ++ rest)) start)
+          same_run bytes rest split = sym (fresh_run start fresh true bytes) ∙ ap (λ (l : List ℕ). resumed true l start) (again bytes rest split)
 
--- a script without a fault of its own, over an input and an output without fault
-pub done_or_memory : (status : Status) (bytes taken rest text : List ℕ) → IsDue status bytes taken rest text → (run bytes).stop ≡ None
-    → (status ≡ ReadFault → ⊥) → (status ≡ WriteFault → ⊥) → (status ≡ Done) ⊎ (status ≡ Memory)
-done_or_memory Done bytes taken rest text due fine calm_in calm_out = inl refl
-done_or_memory Memory bytes taken rest text due fine calm_in calm_out = inr refl
-done_or_memory (BadScript line kind) bytes taken rest text due fine calm_in calm_out = let wrong = sym fine ∙ due.0 in cc
-done_or_memory (TooLong count) bytes taken rest text due fine calm_in calm_out = let wrong = sym fine ∙ due.0 in cc
-done_or_memory ReadFault bytes taken rest text due fine calm_in calm_out = absurd (calm_in refl)
-done_or_memory WriteFault bytes taken rest text due fine calm_in calm_out = absurd (calm_out refl)
-done_or_memory Usage bytes taken rest text due fine calm_in calm_out = absurd due
+    -- the end of the script was played
+    module _ (unwritten' : Type 0) (new : Kept D) where
+      pub done_at_end : (piece : List ℕ) (left' after' : Option (List ℕ)) → Takes piece left left' → piece ≡ [] → ((bytes : List ℕ) → left ≡ Some bytes → bytes ≡ [])
+          → (status : Status) → EndsDone status session new after after' → (bytes : List ℕ) → left0 ≡ Some bytes
+          → Drives status (store_of start.player.kept) bytes left' before after' unwritten' (IsAt new) (λ a b. IsTold start.player.kept → LeavesEither may_leave new a b)
+      done_at_end piece left' after' took empty end status did bytes told =
+          let here = left_of bytes far.taken left0 left told far.took in
+          let none : here.rest ≡ [] = end here.rest here.left_over in
+          let whole : bytes ≡ far.taken ++ [] = here.split ∙ ap (λ (r : List ℕ). far.taken ++ r) none in
+          let over = left_of bytes (far.taken ++ piece) left0 left' told (takes_then far.taken piece left0 left left' far.took took) in
+          let all : run (store_of start.player.kept) bytes ≡ with_front far.text (resumed true [] session) =
+          sym (fresh_run start fresh true bytes) ∙ ap (λ (l : List ℕ). resumed true l start) whole ∙ far.goes.whole true [] in
+          record {
+            taken = far.taken ++ piece;
+            rest = over.rest;
+            text = far.text ++ did.text;
+            split = over.split;
+            left_over = over.left_over;
+            written = writes_then far.text did.text before after after' far.written did.written;
+            due = subst (λ (s : Status). IsDue s (store_of start.player.kept) bytes (far.taken ++ piece) over.rest (far.text ++ did.text) unwritten' (IsAt new) (λ a b. IsTold start.player.kept → LeavesEither may_leave new a b)) (sym did.done) (
+              nothing_left here.rest piece over.rest left left' here.left_over took over.left_over none,
+              record {
+                ends = ap (λ (p : Played). p.stop) all ∙ did.finishes.stop;
+                said = ap (λ (p : Played). p.text) all ∙ ap (λ (t : List ℕ). far.text ++ t) did.finishes.said;
+                left = subst (IsAt new) (sym (ap (λ (p : Played). p.store) all)) did.finishes.at;
+              },
+            );
+          }
+        where
+          back_nil : (a b : List ℕ) → a ++ b ≡ [] → b ≡ []
+          back_nil [] b is = is
+          back_nil (x ∷ xs) b is = cc
+
+          nothing_left : (rest piece over : List ℕ) (o o' : Option (List ℕ)) → o ≡ Some rest → Takes piece o o' → o' ≡ Some over → rest ≡ [] → over ≡ []
+          nothing_left rest piece over o o' here took there none =
+              let same : Some rest ≡ Some (piece ++ over) = sym here ∙ took ∙ ap (option_map (λ r. piece ++ r)) there in
+              let is : rest ≡ piece ++ over = cc in
+              back_nil piece over (sym is ∙ none)
+
+      -- a read that failed took nothing
+      pub read_failed : (left' : Option (List ℕ)) → left' ≡ left → new ≡ session.player.kept → (bytes : List ℕ) → left0 ≡ Some bytes
+          → Drives ReadFault (store_of start.player.kept) bytes left' before after unwritten' (IsAt new) (λ a b. IsTold start.player.kept → LeavesEither may_leave new a b)
+      read_failed left' same kept bytes told =
+          let here = left_of bytes far.taken left0 left told far.took in
+          let quiet : resumed false [] session ≡ with_front [] (passed (store_of session.player.kept)) =
+          ap (λ (p : Played). with_front session.player.text p)
+          (play-begun (session.count + 1) session.pending.items (store_of session.player.kept) session.unended (λ some. omega (arith, session.begun (grind (arith, common_steps)))) (grind (arith, common_steps)))
+          ∙ ap (λ (t : List ℕ). with_front t (passed (store_of session.player.kept))) far.silent in
+          let all : run_so_far (store_of start.player.kept) far.taken ≡ with_front far.text (with_front [] (passed (store_of session.player.kept))) =
+          sym (fresh_run start fresh false far.taken) ∙ ap (λ (t : List ℕ). resumed false t start) (sym (append-nil far.taken)) ∙ far.goes.whole false [] ∙ ap (with_front far.text) quiet in
+          record {
+            taken = far.taken;
+            rest = here.rest;
+            text = far.text;
+            split = here.split;
+            left_over = same ∙ here.left_over;
+            written = far.written;
+            due = record {
+              ends = ap (λ (p : Played). p.stop) all;
+              said = ap (λ (p : Played). p.text) all ∙ append-nil far.text;
+              left = subst (λ (k : Kept D). IsAt k (run_so_far (store_of start.player.kept) far.taken).store) (sym kept)
+                  (record { alive = far.goes.alive; store_is = sym (ap (λ (p : Played). p.store) all) });
+            };
+          }
+
+-- what rose in a part of a call rose in the call
+pub caused_wider : (a' a b b' c' c e e' f' f n : ℕ) → a' ≤ a → b ≤ b' → c' ≤ c → e ≤ e' → f' ≤ f → (status : Status) → Caused a b c e f n status → Caused a' b' c' e' f' n status
+caused_wider a' a b b' c' c e e' f' f n one two three four five ReadFault rose = omega arith
+caused_wider a' a b b' c' c e e' f' f n one two three four five WriteFault rose = omega arith
+caused_wider a' a b b' c' c e e' f' f n one two three four five (StoreFault disk count) risen = (risen.0, record { rose = let was = risen.1.rose in omega arith; is = risen.1.is })
+caused_wider a' a b b' c' c e e' f' f n one two three four five (Damaged disk at harm) wrong = wrong
+caused_wider a' a b b' c' c e e' f' f n one two three four five Usage wrong = wrong
+caused_wider a' a b b' c' c e e' f' f n one two three four five Done fine = tt
+caused_wider a' a b b' c' c e e' f' f n one two three four five (BadScript line kind) fine = tt
+caused_wider a' a b b' c' c e e' f' f n one two three four five (TooLong count) fine = tt
+caused_wider a' a b b' c' c e e' f' f n one two three four five (Full log length frame) fine = tt
+caused_wider a' a b b' c' c e e' f' f n one two three four five Memory fine = tt
+
+module _ {D : Type 0} {d : Ghosts D} (moment : D → ℕ) (left_since : D → ℕ → List ℕ → Type 0) (may_leave : D → List ℕ → Type 0) (count : D → ℕ) (start : Session D d)
+    (alive : start.player.kept.log.shut ≡ false) (fresh : IsFresh start.player.kept start) (left0 before : Option (List ℕ))
+    (session : Session D d) (left after : Option (List ℕ)) (far : SoFar moment left_since count start session left0 left before after) where
+  back_nil : (a b : List ℕ) → a ++ b ≡ [] → b ≡ []
+  back_nil [] b is = is
+  back_nil (x ∷ xs) b is = cc
+
+  -- nothing is left behind the end
+  no_rest : (piece rest : List ℕ) (left' : Option (List ℕ)) → Takes piece left left' → ((bytes : List ℕ) → left ≡ Some bytes → bytes ≡ []) → left' ≡ Some rest → rest ≡ []
+  no_rest piece rest left' took end is = back_nil piece rest (end (piece ++ rest) (took ∙ ap (option_map (λ r. piece ++ r)) is))
+
+  -- the end of the script, either way
+  pub last_in : (unwritten unwritten' : Type 0) → (unwritten → unwritten') → (new : Kept D) (piece : List ℕ) (left' after' : Option (List ℕ)) → Takes piece left left' → piece ≡ []
+      → ((bytes : List ℕ) → left ≡ Some bytes → bytes ≡ []) → (status : Status) → EndsAtEnd may_leave count unwritten status session new after after' → (bytes : List ℕ) → left0 ≡ Some bytes
+      → Drives status (store_of start.player.kept) bytes left' before after' unwritten' (IsAt new) (λ a b. IsTold start.player.kept → LeavesEither may_leave new a b)
+  last_in unwritten unwritten' to new piece left' after' took empty end status (inl did) bytes told =
+      done_at_end moment left_since may_leave count start alive fresh left0 before session left after far unwritten' new piece left' after' took empty end status did bytes told
+  last_in unwritten unwritten' to new piece left' after' took empty end status (inr did) bytes told =
+      ended_in moment left_since may_leave count start alive fresh left0 before session left after far unwritten unwritten' to new status piece left' after' took did.text did.written
+      (λ rest is. subst (λ (b : List ℕ). Stops may_leave count unwritten status b did.text session new) (ap (λ (r : List ℕ). [] ++ r) (sym (no_rest piece rest left' took end is)) ∙ ap (λ (p : List ℕ). p ++ rest) (sym empty)) did.stops) bytes told
+
+  pub last_caused : (in_before in_after out_before out_after : ℕ) (unwritten : Type 0) → (unwritten → Rose out_before out_after) → (new : Kept D) (status : Status) (after' : Option (List ℕ))
+      → EndsAtEnd may_leave count unwritten status session new after after' → Caused in_before in_after out_before out_after (count session.player.kept.log.disk) (count new.log.disk) status
+  last_caused in_before in_after out_before out_after unwritten rose new status after' (inl did) =
+      subst (λ (s : Status). Caused in_before in_after out_before out_after (count session.player.kept.log.disk) (count new.log.disk) s) (sym did.done) tt
+  last_caused in_before in_after out_before out_after unwritten rose new status after' (inr did) =
+      ends_caused in_before in_after out_before out_after (count session.player.kept.log.disk) (count new.log.disk) _ _ unwritten status _ _ did.text rose did.stops
+
+  pub piece_caused : (in_before in_after out_before out_after : ℕ) (unwritten : Type 0) → (unwritten → Rose out_before out_after) → (new : Kept D) (status : Status) (piece : List ℕ) (after' : Option (List ℕ))
+      → EndsInPiece may_leave count unwritten status piece session new after after' → Caused in_before in_after out_before out_after (count session.player.kept.log.disk) (count new.log.disk) status
+  piece_caused in_before in_after out_before out_after unwritten rose new status piece after' did =
+      ends_caused in_before in_after out_before out_after (count session.player.kept.log.disk) (count new.log.disk) _ _ unwritten status _ _ did.text rose (did.stops [])
+
+  -- what a stop left until the end
+  pub moments_last : (new : Kept D) → ((bytes : List ℕ) → left ≡ Some bytes → bytes ≡ []) → MovesLast moment left_since count session new → (bytes : List ℕ) → left0 ≡ Some bytes → IsTold start.player.kept
+      → Adds moment left_since start.player.kept.log.disk new.log.disk (IsBehind (λ k. behind_lines k bytes (store_of start.player.kept)))
+  moments_last new end moved bytes told disk_told =
+      let here = left_of bytes far.taken left0 left told far.took in
+      let whole : bytes ≡ far.taken ++ [] = here.split ∙ ap (λ (r : List ℕ). far.taken ++ r) (end here.rest here.left_over) in
+      adds_then moment left_since start.player.kept.log.disk session.player.kept.log.disk new.log.disk (IsBehind (λ k. behind_lines k bytes (store_of start.player.kept)))
+      (adds_weaker moment left_since start.player.kept.log.disk session.player.kept.log.disk _ (IsBehind (λ k. behind_lines k bytes (store_of start.player.kept))) (far.moves.moments disk_told [])
+      (λ image was. record { lines = was.lines; stands = subst (λ (s : Store). IsImage s image) (ap (λ (p : Played). p.store) (ap (λ (l : List ℕ). resumed_by was.lines l start) (sym whole) ∙ fresh_lines start fresh was.lines bytes)) was.stands }))
+      (adds_weaker moment left_since session.player.kept.log.disk new.log.disk _ (IsBehind (λ k. behind_lines k bytes (store_of start.player.kept))) (moved.moments (far.moves.told ∙ disk_told))
+      (λ image was. record {
+        lines = was.lines + far.goes.lines;
+        stands = subst (λ (s : Store). IsImage s image)
+            (sym (ap (λ (p : Played). p.store) (sym (fresh_lines start fresh (was.lines + far.goes.lines) bytes) ∙ ap (λ (l : List ℕ). resumed_by (was.lines + far.goes.lines) l start) whole ∙ far.goes.steps was.lines []))) was.stands;
+      }))

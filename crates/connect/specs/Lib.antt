@@ -1,3 +1,7 @@
+pub mod Store
+pub mod Events
+pub mod Harms
+pub mod Reading
 pub mod Cuts
 pub mod Statuses
 pub mod Players

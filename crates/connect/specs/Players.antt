@@ -1,37 +1,80 @@
--- What clauses see of a player: the transactions, and the text of the answers that it holds.
-use Rattle.std.specs.Prelude.{◌≡◌, ℕ, List, [], ◌++◌, Some, None}
-use Rattle.cw_txn.specs.declared.entry.Entry.{Entry}
-use Rattle.connect.specs.declared.answer.Answer.{Answer}
+-- What clauses see of a player: the transactions on their disk, and the text of the answers that it holds.
+use Rattle.std.specs.Prelude.{◌≡◌, ◌≤◌, ◌⊎◌, ℕ, List, [], ◌++◌, Bool, true, false, Some, None, Result, Ok, Err, is_some}
+use Rattle.cw_disk.specs.Disk.{Adds}
+use Rattle.cw_types.specs.Faults.{Rose}
+use Rattle.cw_types.specs.declared.logs.DiskName.TheVariants.{Txn}
 use Rattle.connect.specs.declared.status.Status.{Status}
-use Rattle.connect.specs.declared.status.Status.TheVariants.{Done, Usage, BadScript, TooLong, ReadFault, WriteFault, Memory}
+use Rattle.connect.specs.declared.status.Status.TheVariants.{StoreFault, Memory}
 use Rattle.connect.specs.Run.{Played}
+use Rattle.connect.specs.Statuses.{is_own}
+use Rattle.connect.specs.Store.{Store, Kept, IsImage, store_of}
 
-pub record PlayerState : Type 0 where
-  pub entries : List Entry
+pub record PlayerState (D : Type 0) : Type 0 where
+  pub kept : Kept D
   pub text : List ℕ
 
--- it played that, which doesn't end the script
-pub record HasPlayed (old new : PlayerState) (played : Played) : Type 0 where
+-- the disk tells its content
+abbrev pub IsTold : {D : Type 0} → Kept D → Type 0
+IsTold kept = is_some kept.log.bodies ≡ true
+
+-- no event has failed, and this is the store
+pub record IsAt {D : Type 0} (kept : Kept D) (store : Store) : Type 0 where
+  pub alive : kept.log.shut ≡ false
+  pub store_is : store_of kept ≡ store
+
+-- a stop leaves the one store or the other
+abbrev pub LeavesEither : {D : Type 0} → (D → List ℕ → Type 0) → Kept D → (a b : Store) → Type 0
+LeavesEither may_leave kept a b = (image : List ℕ) → may_leave kept.log.disk image → IsImage a image ⊎ IsImage b image
+
+-- it played what doesn't end the script
+pub record HasPlayed {D : Type 0} (old new : PlayerState D) (played : Played) : Type 0 where
   pub goes_on : played.stop ≡ None
-  pub entries : new.entries ≡ played.entries
+  pub at : IsAt new.kept played.store
   pub text : new.text ≡ old.text ++ played.text
 
 -- it played what ends the script with that status, and did nothing
-pub record HasEnded (status : Status) (old new : PlayerState) (played : Played) : Type 0 where
+pub record HasEnded {D : Type 0} (status : Status) (old new : PlayerState D) (played : Played) : Type 0 where
+  pub own : is_own status ≡ true
   pub stop : played.stop ≡ Some status
   pub silent : played.text ≡ []
-  pub same : new ≡ old
+  pub nothing : played.store ≡ store_of old.kept
+  pub at : IsAt new.kept (store_of old.kept)
+  pub text : new.text ≡ old.text
 
--- it ended the script with that status; for want of memory it said nothing
-abbrev pub HasStopped : Status → (old new : PlayerState) → Played → Type 0
-HasStopped (BadScript line kind) old new played = HasEnded (BadScript line kind) old new played
-HasStopped (TooLong count) old new played = HasEnded (TooLong count) old new played
-HasStopped Memory old new played = new.text ≡ old.text
-HasStopped Done old new played = ⊥
-HasStopped Usage old new played = ⊥
-HasStopped ReadFault old new played = ⊥
-HasStopped WriteFault old new played = ⊥
+-- for want of memory it said nothing, and did nothing
+pub record HasWanted {D : Type 0} (status : Status) (old new : PlayerState D) : Type 0 where
+  pub memory : status ≡ Memory
+  pub at : IsAt new.kept (store_of old.kept)
+  pub text : new.text ≡ old.text
 
--- an answer and the transactions behind it are these
-abbrev pub Gives : Answer × List Entry → Answer → List Entry → Type 0
-Gives meant answer after = (answer ≡ meant.0) × (after ≡ meant.1)
+-- it played what doesn't end the script, and for want of memory said nothing
+pub record HasNotSaid {D : Type 0} (status : Status) (old new : PlayerState D) (played : Played) : Type 0 where
+  pub memory : status ≡ Memory
+  pub goes_on : played.stop ≡ None
+  pub at : IsAt new.kept played.store
+  pub text : new.text ≡ old.text
+
+-- the disk failed in what doesn't end the script; a stop leaves the store before it or behind it
+pub record HasFailed {D : Type 0} (may_leave : D → List ℕ → Type 0) (count : D → ℕ) (status : Status) (old new : PlayerState D) (played : Played) : Type 0 where
+  pub fault : status ≡ StoreFault Txn (count new.kept.log.disk)
+  pub rose : Rose (count old.kept.log.disk) (count new.kept.log.disk)
+  pub goes_on : played.stop ≡ None
+  pub text : new.text ≡ old.text
+  pub left : IsTold old.kept → LeavesEither may_leave new.kept (store_of old.kept) played.store
+
+-- how it ended
+pub data HasStopped {D : Type 0} (may_leave : D → List ℕ → Type 0) (count : D → ℕ) (status : Status) (old new : PlayerState D) (played : Played) : Type 0 where
+  ended : HasEnded status old new played → HasStopped may_leave count status old new played
+  wanted : HasWanted status old new → HasStopped may_leave count status old new played
+  not_said : HasNotSaid status old new played → HasStopped may_leave count status old new played
+  failed : HasFailed may_leave count status old new played → HasStopped may_leave count status old new played
+
+abbrev pub HasDone : {D : Type 0} → (D → List ℕ → Type 0) → (D → ℕ) → Result (Unit {0}) Status → (old new : PlayerState D) → Played → Type 0
+HasDone may_leave count (Ok _) old new played = HasPlayed old new played
+HasDone may_leave count (Err status) old new played = HasStopped may_leave count status old new played
+
+-- the disk is still told, its count didn't fall, and a stop at any moment left the store before or behind
+pub record Steps {D : Type 0} (moment : D → ℕ) (left_since : D → ℕ → List ℕ → Type 0) (count : D → ℕ) (old new : Kept D) (after : Store) : Type 0 where
+  pub told : is_some new.log.bodies ≡ is_some old.log.bodies
+  pub later : count old.log.disk ≤ count new.log.disk
+  pub any_moment : IsTold old → Adds moment left_since old.log.disk new.log.disk (λ image. IsImage (store_of old) image ⊎ IsImage after image)

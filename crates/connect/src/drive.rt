@@ -1,60 +1,112 @@
 //! Reads a script to its end, and writes the answers to its lines before it reads on.
-ghost use Rattle.std.specs.Prelude.{◌≡◌, ◌≢◌, ◌≤◌, ◌<◌, ◌+◌, ◌++◌, [], ℕ, List, Bool, Some, IfErr, OnOk, OnErr, length};
+ghost use Rattle.std.specs.Prelude.{◌≡◌, ◌≢◌, ◌≤◌, ◌<◌, ◌+◌, ◌++◌, [], ℕ, List, Bool, false, Some, IfErr, OnOk, OnErr, length, is_some};
+ghost use Rattle.cw_disk.specs.Disk.{Adds};
 ghost use Rattle.cw_types.specs.Faults.{Rose};
 ghost use Rattle.cw_io.specs.Written.{IsWrittenInPart};
 ghost use Rattle.connect.specs.declared.status.Status.{Status};
-ghost use Rattle.connect.specs.declared.status.Status.TheVariants.{ReadFault, WriteFault, Usage};
-ghost use Rattle.connect.specs.Drives.{Writes, PlaysPiece, EndsInPiece, EndsAtEnd, status_behind};
-ghost use Rattle.connect.specs.Outcomes.{Drives};
-ghost use Rattle.connect.specs.Run.{with_front};
-ghost use Rattle.connect.specs.Sessions.{resumed, room};
+ghost use Rattle.connect.specs.declared.status.Status.TheVariants.{WriteFault};
+ghost use Rattle.connect.specs.Drives.{Writes, HasForgotten, PlaysPiece, EndsInPiece, EndsAtEnd, Caused, after_tell};
+ghost use Rattle.connect.specs.Outcomes.{Drives, Stand, StandEither};
+ghost use Rattle.connect.specs.Players.{IsTold, IsAt, LeavesEither};
+ghost use Rattle.connect.specs.Run.{with_front, behind_lines};
+ghost use Rattle.connect.specs.Sessions.{IsBehind, IsFresh, Moves, MovesLast, room};
+ghost use Rattle.connect.specs.Store.{store_of};
 
 use crate::session::Session;
 use crate::status::Status;
+use crate::transactions::Transactions;
+use cw_disk::Disk;
 use cw_io::{Sink, Source, write_all};
 use std::alloc::Global;
 
 // How many bytes are read at once.
 const PIECE: usize = 65_536;
 
-/// Plays the script that the input holds.
-pub(crate) fn drive<I: Source, O: Sink>(alloc: Global, input: &mut I, output: &mut O) -> Status
+/// How a drive ended, and its disk.
+#[derive(Drop)]
+pub(crate) struct Driven<D> {
+    pub(crate) status: Status,
+    pub(crate) disk: D,
+}
+
+/// Plays the script that the input holds over the transactions.
+pub(crate) fn drive<D: Disk, I: Source, O: Sink>(
+    alloc: Global,
+    transactions: Transactions<D>,
+    input: &mut I,
+    output: &mut O,
+) -> Driven<D>
+    requires alive { transactions.log.shut ≡ false }
     ensures drives { (bytes : List ℕ) → I.left input.old ≡ Some bytes →
-        Drives result bytes (I.left input.new) (O.held output.old) (O.held output.new) }
-    ensures never_usage { result ≢ Usage }
+        Drives result.status (store_of transactions) bytes (I.left input.new) (O.held output.old) (O.held output.new) (Rose (O.faults output.old) (O.faults output.new))
+        (λ store. IsTold transactions → Stand (D.may_leave result.disk) store) (λ a b. IsTold transactions → StandEither (D.may_leave result.disk) a b) }
+    ensures moments { (bytes : List ℕ) → I.left input.old ≡ Some bytes → IsTold transactions →
+        Adds D.moment D.left_since transactions.log.disk result.disk (IsBehind (λ k. behind_lines k bytes (store_of transactions))) }
+    ensures caused { Caused (I.faults input.old) (I.faults input.new) (O.faults output.old) (O.faults output.new) (D.count transactions.log.disk) (D.count result.disk) result.status }
     ensures later_in { I.faults input.old ≤ I.faults input.new }
     ensures later_out { O.faults output.old ≤ O.faults output.new }
-    ensures read_fault { result ≡ ReadFault → Rose (I.faults input.old) (I.faults input.new) }
-    ensures write_fault { result ≡ WriteFault → Rose (O.faults output.old) (O.faults output.new) }
+    ensures later { D.count transactions.log.disk ≤ D.count result.disk }
+{
+    let mut session = Session::new(alloc, transactions);
+    let status = drive_session(alloc, &mut session, input, output);
+    Driven {
+        status,
+        disk: session.give_back().give_back(),
+    }
+}
+
+// The same, in a session.
+fn drive_session<D: Disk, I: Source, O: Sink>(
+    alloc: Global,
+    session: &mut Session<D>,
+    input: &mut I,
+    output: &mut O,
+) -> Status
+    requires alive { session.old.player.kept.log.shut ≡ false }
+    requires fresh { IsFresh session.old.player.kept session.old }
+    ensures drives { (bytes : List ℕ) → I.left input.old ≡ Some bytes →
+        Drives result (store_of session.old.player.kept) bytes (I.left input.new) (O.held output.old) (O.held output.new) (Rose (O.faults output.old) (O.faults output.new))
+        (IsAt session.new.player.kept) (λ a b. IsTold session.old.player.kept → LeavesEither D.may_leave session.new.player.kept a b) }
+    ensures moments { (bytes : List ℕ) → I.left input.old ≡ Some bytes → IsTold session.old.player.kept →
+        Adds D.moment D.left_since session.old.player.kept.log.disk session.new.player.kept.log.disk (IsBehind (λ k. behind_lines k bytes (store_of session.old.player.kept))) }
+    ensures caused { Caused (I.faults input.old) (I.faults input.new) (O.faults output.old) (O.faults output.new) (D.count session.old.player.kept.log.disk) (D.count session.new.player.kept.log.disk) result }
+    ensures told { is_some session.new.player.kept.log.bodies ≡ is_some session.old.player.kept.log.bodies }
+    ensures later_in { I.faults input.old ≤ I.faults input.new }
+    ensures later_out { O.faults output.old ≤ O.faults output.new }
+    ensures later { D.count session.old.player.kept.log.disk ≤ D.count session.new.player.kept.log.disk }
 {
     let Ok(mut piece) = vec![in alloc; 0u8; PIECE] else {
         return Status::Memory;
     };
-    drive_by(alloc, input, output, piece.as_mut_slice())
+    drive_by(session, input, output, piece.as_mut_slice())
 }
 
 // The same, by pieces of at most that length.
-fn drive_by<I: Source, O: Sink>(
-    alloc: Global,
+fn drive_by<D: Disk, I: Source, O: Sink>(
+    session: &mut Session<D>,
     input: &mut I,
     output: &mut O,
     piece: &mut [u8],
 ) -> Status
-    requires { 0 < length piece.old }
+    requires some { 0 < length piece.old }
+    requires alive { session.old.player.kept.log.shut ≡ false }
+    requires fresh { IsFresh session.old.player.kept session.old }
     ensures drives { (bytes : List ℕ) → I.left input.old ≡ Some bytes →
-        Drives result bytes (I.left input.new) (O.held output.old) (O.held output.new) }
-    ensures never_usage { result ≢ Usage }
+        Drives result (store_of session.old.player.kept) bytes (I.left input.new) (O.held output.old) (O.held output.new) (Rose (O.faults output.old) (O.faults output.new))
+        (IsAt session.new.player.kept) (λ a b. IsTold session.old.player.kept → LeavesEither D.may_leave session.new.player.kept a b) }
+    ensures moments { (bytes : List ℕ) → I.left input.old ≡ Some bytes → IsTold session.old.player.kept →
+        Adds D.moment D.left_since session.old.player.kept.log.disk session.new.player.kept.log.disk (IsBehind (λ k. behind_lines k bytes (store_of session.old.player.kept))) }
+    ensures caused { Caused (I.faults input.old) (I.faults input.new) (O.faults output.old) (O.faults output.new) (D.count session.old.player.kept.log.disk) (D.count session.new.player.kept.log.disk) result }
+    ensures told { is_some session.new.player.kept.log.bodies ≡ is_some session.old.player.kept.log.bodies }
     ensures later_in { I.faults input.old ≤ I.faults input.new }
     ensures later_out { O.faults output.old ≤ O.faults output.new }
-    ensures read_fault { result ≡ ReadFault → Rose (I.faults input.old) (I.faults input.new) }
-    ensures write_fault { result ≡ WriteFault → Rose (O.faults output.old) (O.faults output.new) }
+    ensures later { D.count session.old.player.kept.log.disk ≤ D.count session.new.player.kept.log.disk }
 {
-    let mut session = Session::new(alloc);
-    loop {
+    'pieces: loop {
         match input.read(piece) {
-            Ok(0) => return last(&mut session, output),
+            Ok(0) => return last(session, output),
             Ok(count) => {
-                if let Err(status) = turn(&mut session, output, &piece[..count]) {
+                if let Err(status) = turn(session, output, &piece[..count]) {
                     return status;
                 }
             }
@@ -64,49 +116,54 @@ fn drive_by<I: Source, O: Sink>(
 }
 
 // Plays a piece of the script, and writes the answers.
-fn turn<O: Sink>(session: &mut Session, output: &mut O, piece: &[u8]) -> Result<(), Status>
+fn turn<D: Disk, O: Sink>(
+    session: &mut Session<D>,
+    output: &mut O,
+    piece: &[u8],
+) -> Result<(), Status>
+    requires alive { session.old.player.kept.log.shut ≡ false }
     ensures go { OnOk result (PlaysPiece piece.now session.old session.new (O.held output.old) (O.held output.new)) }
-    ensures stop { IfErr result (λ status. EndsInPiece status piece.now session.old (O.held output.old) (O.held output.new)) }
+    ensures stop { IfErr result (λ status. EndsInPiece D.may_leave D.count (Rose (O.faults output.old) (O.faults output.new)) status piece.now session.old session.new.player.kept (O.held output.old) (O.held output.new)) }
+    ensures moves { Moves D.moment D.left_since D.count piece.now session.old session.new.player.kept }
     ensures later { O.faults output.old ≤ O.faults output.new }
-    ensures rose { IfErr result (λ status. status ≡ WriteFault → Rose (O.faults output.old) (O.faults output.new)) }
     ensures less { OnOk result (room session.new + length piece.now ≤ room session.old) }
 {
     let fed = session.feed(piece);
-    match tell(session, output) {
-        Ok(()) => fed,
-        Err(status) => Err(status),
-    }
+    let told = tell(session, output);
+    first_of(fed, told)
 }
 
 // Plays the end of the script, and writes the answers.
-fn last<O: Sink>(session: &mut Session, output: &mut O) -> Status
-    ensures ends { EndsAtEnd result session.old (O.held output.old) (O.held output.new) }
+fn last<D: Disk, O: Sink>(session: &mut Session<D>, output: &mut O) -> Status
+    requires alive { session.old.player.kept.log.shut ≡ false }
+    ensures ends { EndsAtEnd D.may_leave D.count (Rose (O.faults output.old) (O.faults output.new)) result session.old session.new.player.kept (O.held output.old) (O.held output.new) }
+    ensures moves { MovesLast D.moment D.left_since D.count session.old session.new.player.kept }
     ensures later { O.faults output.old ≤ O.faults output.new }
-    ensures rose { result ≡ WriteFault → Rose (O.faults output.old) (O.faults output.new) }
 {
     let finished = session.finish();
-    match tell(session, output) {
-        Ok(()) => status_of(finished),
-        Err(status) => status,
-    }
-}
-
-// The status of a script that was played to its end, or stopped there.
-fn status_of(finished: Result<(), Status>) -> Status
-    ensures { result ≡ status_behind finished }
-{
-    match finished {
+    let told = tell(session, output);
+    match first_of(finished, told) {
         Ok(()) => Status::Done,
         Err(status) => status,
     }
 }
 
+// How a step ended: as playing did where the disk failed, else as writing did where that failed.
+fn first_of(played: Result<(), Status>, told: Result<(), Status>) -> Result<(), Status>
+    ensures { result ≡ after_tell played told }
+{
+    match (played, told) {
+        (Err(Status::StoreFault { disk, count }), _) => Err(Status::StoreFault { disk, count }),
+        (_, Err(status)) => Err(status),
+        (played, Ok(())) => played,
+    }
+}
+
 // Writes the answers that the session holds, and forgets them.
-fn tell<O: Sink>(session: &mut Session, output: &mut O) -> Result<(), Status>
+fn tell<D: Disk, O: Sink>(session: &mut Session<D>, output: &mut O) -> Result<(), Status>
     ensures written { OnOk result (Writes session.old.player.text (O.held output.old) (O.held output.new)) }
-    ensures same { OnOk result ((ended : Bool) (more : List ℕ) → resumed ended more session.old ≡ with_front session.old.player.text (resumed ended more session.new)) }
-    ensures silent { OnOk result (session.new.player.text ≡ []) }
-    ensures room { OnOk result (room session.new ≡ room session.old) }
+    ensures silent { OnOk result (HasForgotten session.old session.new) }
+    ensures kept { OnErr result (session.new ≡ session.old) }
     ensures in_part { OnErr result (IsWrittenInPart session.old.player.text (O.held output.old) (O.held output.new)) }
     ensures fault { IfErr result (λ status. status ≡ WriteFault) }
     ensures later { O.faults output.old ≤ O.faults output.new }

@@ -1,5 +1,5 @@
 //! Plays the directives of a script over the transactions.
-ghost use Rattle.std.specs.Prelude.{◌≡◌, ◌+◌, ◌≤◌, ◌<◌, ◌^◌, ℕ, [], ◌∷◌, ◌++◌, List, map, length, find, Some, None, Ok, Option, IfOk, IfErr, OnOk, OnErr, option_map};
+ghost use Rattle.std.specs.Prelude.{◌≡◌, ◌+◌, ◌≤◌, ◌<◌, ◌^◌, ℕ, [], ◌∷◌, ◌++◌, List, map, length, find, false, Some, None, Ok, Option, IfOk, OnOk, OnErr, option_map};
 ghost use Rattle.cw_script.specs.Pairs.{ArePairs};
 ghost use Rattle.cw_script.specs.Spelling.{IsSayable};
 ghost use Rattle.cw_script.specs.declared.directive.PartEnd.{PartEnd};
@@ -7,12 +7,14 @@ ghost use Rattle.cw_types.specs.declared.ids.Tid.TheVariants.{Raw};
 ghost use Rattle.cw_txn.specs.Legal.{epoch_of};
 ghost use Rattle.connect.specs.Answers.{answer_text};
 ghost use Rattle.connect.specs.Cuts.{committing, is_bad_cut, span_of};
-ghost use Rattle.connect.specs.Run.{answer_of, init_answer, commit_answer, done_answer, play_answer, play_line};
+ghost use Rattle.connect.specs.Run.{answer_of, init_answer, commit_answer, done_answer, play_event, play_answer, play_line};
+ghost use Rattle.connect.specs.Store.{store_of};
 
 use crate::answer::{Answer, Committing};
 use crate::status::Status;
+use crate::transactions::{EventFault, Transactions};
+use cw_disk::Disk;
 use cw_script::{Directive, LineKind, PartEnd, ScriptFault, read_line};
-use cw_txn::Coordinator;
 use cw_types::{Epoch, Listed, PartKey, Span, Tag, Tid};
 use std::alloc::{AllocError, Global};
 use std::fmt::Write;
@@ -26,36 +28,32 @@ pub(crate) const MOST_BYTES: usize = 65_536;
 
 /// The transactions of a run, and the answers that aren't written yet.
 #[derive(Drop)]
-pub(crate) struct Player {
+pub(crate) struct Player<D: Disk> {
     alloc: Global,
-    coordinator: Coordinator,
+    transactions: Transactions<D>,
     answers: String,
     line: String,
 }
 
-impl Model for Player {
+impl<D: Disk> Model for Player<D> {
     ghost use Rattle.std.specs.Prelude.{string_bytes};
     ghost use Rattle.connect.specs.Players.{PlayerState};
 
-    ghost Value = { PlayerState };
+    ghost Value = { PlayerState D };
 
-    ghost use Rattle.cw_txn.specs.Legal.{AreNumbered};
-
-    ghost view = { λ p. record { entries = p.coordinator.entries; text = string_bytes p.answers } };
-
-    ghost invariant = { λ p. AreNumbered p.coordinator.entries };
+    ghost view = { λ p. record { kept = p.transactions; text = string_bytes p.answers } };
 }
 
-impl Player {
-    ghost use Rattle.connect.specs.Players.{PlayerState, HasPlayed, HasStopped, Gives};
+impl<D: Disk> Player<D> {
+    ghost use Rattle.connect.specs.Players.{PlayerState, HasDone, Steps};
 
-    /// No transaction and no answer yet.
-    pub(crate) fn new(alloc: Global) -> Player
-        ensures { result ≡ record { entries = []; text = [] } }
+    /// Over these transactions, with no answer yet.
+    pub(crate) fn new(alloc: Global, transactions: Transactions<D>) -> Player<D>
+        ensures { result ≡ record { kept = transactions; text = [] } }
     {
         Player {
             alloc,
-            coordinator: Coordinator::new(alloc),
+            transactions,
             answers: String::new(alloc),
             line: String::new(alloc),
         }
@@ -75,11 +73,19 @@ impl Player {
         self.answers.clear();
     }
 
+    /// Gives the transactions back.
+    pub(crate) fn give_back(self) -> Transactions<D>
+        ensures { result ≡ self.kept }
+    {
+        self.transactions
+    }
+
     /// Plays a whole line.
     pub(crate) fn play_line(&mut self, number: u64, line: &[u8]) -> Result<(), Status>
-        ensures go { OnOk result (HasPlayed self.old self.new (play_line number line.now self.old.entries)) }
+        requires alive { self.old.kept.log.shut ≡ false }
+        ensures done { HasDone D.may_leave D.count result self.old self.new (play_line number line.now (store_of self.old.kept)) }
         ensures within { OnOk result ((number ≤ 1000000) × (length line.now ≤ 65536)) }
-        ensures stop { IfErr result (λ status. HasStopped status self.old self.new (play_line number line.now self.old.entries)) }
+        ensures steps { Steps D.moment D.left_since D.count self.old.kept self.new.kept (play_line number line.now (store_of self.old.kept)).store }
     {
         if number > MOST_LINES {
             return Err(Status::TooLong(MOST_LINES + 1));
@@ -100,81 +106,67 @@ impl Player {
 
     // Plays a directive, and says its answer.
     fn play(&mut self, number: u64, directive: &Directive) -> Result<(), Status>
-        requires { IsSayable directive.now }
-        ensures go { OnOk result (HasPlayed self.old self.new (play_answer number self.old.entries (answer_of directive.now self.old.entries))) }
-        ensures stop { IfErr result (λ status. HasStopped status self.old self.new (play_answer number self.old.entries (answer_of directive.now self.old.entries))) }
+        requires alive { self.old.kept.log.shut ≡ false }
+        requires sayable { IsSayable directive.now }
+        ensures done { HasDone D.may_leave D.count result self.old self.new (play_answer number (store_of self.old.kept) (answer_of directive.now (store_of self.old.kept))) }
+        ensures steps { Steps D.moment D.left_since D.count self.old.kept self.new.kept (play_answer number (store_of self.old.kept) (answer_of directive.now (store_of self.old.kept))).store }
     {
-        match self.answer(directive)? {
-            Some(answer) => {
-                self.say(&answer)?;
-                Ok(())
-            }
-            None => Err(Status::BadScript {
+        match directive {
+            Directive::Init(id) => self.init(*id),
+            Directive::Commit { id, epoch, pairs } => self.commit(*id, *epoch, pairs.as_slice()),
+            _ => Err(Status::BadScript {
                 line: number,
                 kind: LineKind::NoWord,
             }),
         }
     }
 
-    // Does a directive, and gives its answer; none where the program doesn't play it yet.
-    fn answer(&mut self, directive: &Directive) -> Result<Option<Answer>, AllocError>
-        requires { IsSayable directive.now }
-        ensures ok { IfOk result (λ answer. answer_of directive.now self.old.entries ≡ option_map (λ a. (a, self.new.entries)) answer) }
-        ensures none { result ≡ Ok None → self.new ≡ self.old }
-        ensures text { self.new.text ≡ self.old.text }
-    {
-        match directive {
-            Directive::Init(id) => Ok(Some(self.init(*id)?)),
-            Directive::Commit { id, epoch, pairs } => Ok(Some(self.commit(
-                *id,
-                *epoch,
-                pairs.as_slice(),
-            )?)),
-            _ => Ok(None),
-        }
-    }
-
     // A producer's next epoch.
-    fn init(&mut self, id: u32) -> Result<Answer, AllocError>
-        ensures ok { IfOk result (λ answer. Gives (init_answer id self.old.entries) answer self.new.entries) }
-        ensures text { self.new.text ≡ self.old.text }
+    fn init(&mut self, id: u32) -> Result<(), Status>
+        requires alive { self.old.kept.log.shut ≡ false }
+        ensures done { HasDone D.may_leave D.count result self.old self.new (play_event (store_of self.old.kept) (init_answer id (store_of self.old.kept))) }
+        ensures steps { Steps D.moment D.left_since D.count self.old.kept self.new.kept (play_event (store_of self.old.kept) (init_answer id (store_of self.old.kept))).store }
     {
-        match self.coordinator.bump(&Tid::Raw(id)) {
-            Ok(epoch) => Ok(Answer::Epoch(epoch.0)),
-            Err(_) => Err(AllocError),
-        }
+        let epoch = self.transactions.bump(&Tid::Raw(id))?;
+        self.say(&Answer::Epoch(epoch.0))?;
+        Ok(())
     }
 
     // A commit is judged by its epoch first, and then part by part.
-    fn commit(&mut self, id: u32, epoch: u64, pairs: &[PartEnd]) -> Result<Answer, AllocError>
-        requires { ArePairs pairs.now }
-        ensures ok { IfOk result (λ answer. Gives (commit_answer id epoch (map (committing self.old.entries) pairs.now) self.old.entries) answer self.new.entries) }
-        ensures text { self.new.text ≡ self.old.text }
+    fn commit(&mut self, id: u32, epoch: u64, pairs: &[PartEnd]) -> Result<(), Status>
+        requires alive { self.old.kept.log.shut ≡ false }
+        requires named { ArePairs pairs.now }
+        ensures done { HasDone D.may_leave D.count result self.old self.new (play_event (store_of self.old.kept) (commit_answer id epoch (map (committing self.old.kept.entries) pairs.now) (store_of self.old.kept))) }
+        ensures steps { Steps D.moment D.left_since D.count self.old.kept self.new.kept (play_event (store_of self.old.kept) (commit_answer id epoch (map (committing self.old.kept.entries) pairs.now) (store_of self.old.kept))).store }
     {
-        let current = self.coordinator.epoch_of(&Tid::Raw(id));
+        let current = self.transactions.epoch_of(&Tid::Raw(id));
         if epoch != current {
-            return Ok(Answer::Fenced {
+            self.say(&Answer::Fenced {
                 own: epoch,
                 current,
-            });
+            })?;
+            return Ok(());
         }
         let parts = self.parts(pairs)?;
         match first_bad_cut(&parts) {
-            Some(bad) => Ok(Answer::BadCut {
-                from: bad.from,
-                to: bad.to,
-            }),
+            Some(bad) => {
+                self.say(&Answer::BadCut {
+                    from: bad.from,
+                    to: bad.to,
+                })?;
+                Ok(())
+            }
             None => self.commit_parts(id, epoch, parts),
         }
     }
 
     // What the pairs ask of their parts.
     fn parts(&self, pairs: &[PartEnd]) -> Result<Vec<Committing>, AllocError>
-        ensures { IfOk result (λ parts. parts.items ≡ map (committing self.now.entries) pairs.now) }
+        ensures { IfOk result (λ parts. parts.items ≡ map (committing self.now.kept.entries) pairs.now) }
     {
         let mut parts = Vec::with_capacity(self.alloc, pairs.len())?;
         for pair in pairs {
-            let end = self.coordinator.end_of(&PartKey::Raw(pair.part));
+            let end = self.transactions.end_of(&PartKey::Raw(pair.part));
             parts.push(Committing {
                 part: pair.part,
                 from: end.unwrap_or(0),
@@ -185,28 +177,23 @@ impl Player {
     }
 
     // Commits these parts at the id's last epoch.
-    fn commit_parts(
-        &mut self,
-        id: u32,
-        epoch: u64,
-        parts: Vec<Committing>,
-    ) -> Result<Answer, AllocError>
-        requires current { epoch ≡ epoch_of (Raw id) self.old.entries }
+    fn commit_parts(&mut self, id: u32, epoch: u64, parts: Vec<Committing>) -> Result<(), Status>
+        requires alive { self.old.kept.log.shut ≡ false }
+        requires current { epoch ≡ epoch_of (Raw id) self.old.kept.entries }
         requires grow { find is_bad_cut parts.items ≡ None }
-        requires asked { (pairs : List PartEnd) × (parts.items ≡ map (committing self.old.entries) pairs) × ArePairs pairs }
-        ensures ok { IfOk result (λ answer. Gives (done_answer id epoch parts.items self.old.entries) answer self.new.entries) }
-        ensures text { self.new.text ≡ self.old.text }
+        requires asked { (pairs : List PartEnd) × (parts.items ≡ map (committing self.old.kept.entries) pairs) × ArePairs pairs }
+        ensures done { HasDone D.may_leave D.count result self.old self.new (play_event (store_of self.old.kept) (done_answer id epoch parts.items (store_of self.old.kept))) }
+        ensures steps { Steps D.moment D.left_since D.count self.old.kept self.new.kept (play_event (store_of self.old.kept) (done_answer id epoch parts.items (store_of self.old.kept))).store }
     {
         let spans = spans_of(self.alloc, &parts)?;
         let tag = Tag {
             tid: Tid::Raw(id),
             epoch: Epoch(epoch),
-            number: self.coordinator.length(),
+            number: self.transactions.length(),
         };
-        match self.coordinator.commit(&tag, 0, &spans) {
-            Ok(()) => Ok(Answer::Committed(Listed::new(parts))),
-            Err(_) => Err(AllocError),
-        }
+        self.transactions.commit(&tag, &spans)?;
+        self.say(&Answer::Committed(Listed::new(parts)))?;
+        Ok(())
     }
 
     // Adds an answer's line to the text.

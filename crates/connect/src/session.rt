@@ -1,16 +1,18 @@
 //! Cuts what is read into lines, and has each line played as soon as it is whole.
-ghost use Rattle.std.specs.Prelude.{◌≡◌, ◌+◌, ◌≤◌, ◌<◌, ◌++◌, ◌∷◌, [], ℕ, List, Bool, true, None, length, vec_len, IfErr, OnOk};
+ghost use Rattle.std.specs.Prelude.{◌≡◌, ◌+◌, ◌≤◌, ◌<◌, ◌++◌, ◌∷◌, [], ℕ, List, Bool, true, false, None, length, vec_len, IfErr, OnOk};
 ghost use Rattle.connect.specs.Lines.{is_line};
 
 use crate::lines::cut_line;
 use crate::player::{MOST_BYTES, MOST_LINES, Player};
 use crate::status::Status;
+use crate::transactions::Transactions;
+use cw_disk::Disk;
 use std::alloc::Global;
 
 /// A script in the middle of its run.
 #[derive(Drop)]
-pub(crate) struct Session {
-    pub(crate) player: Player,
+pub(crate) struct Session<D: Disk> {
+    pub(crate) player: Player<D>,
     // How many lines are done.
     pub(crate) count: u64,
     // The bytes of the line behind them, as far as they are read.
@@ -21,28 +23,36 @@ pub(crate) struct Session {
     ghost unended: { is_line pending.items ≡ true },
 }
 
-impl Session {
-    ghost use Rattle.std.specs.Prelude.{◌≡◌, ◌+◌, ◌≤◌, ◌<◌, ◌++◌, ◌∷◌, [], ℕ, List, Bool, true, None, length, vec_len, IfErr, OnOk};
+impl<D: Disk> Session<D> {
+    ghost use Rattle.std.specs.Prelude.{◌≡◌, ◌+◌, ◌≤◌, ◌<◌, ◌++◌, ◌∷◌, [], ℕ, List, Bool, true, false, None, length, vec_len, IfErr, OnOk};
     ghost use Rattle.connect.specs.Lines.{is_line};
-    ghost use Rattle.connect.specs.Outcomes.{Plays};
-    ghost use Rattle.connect.specs.Sessions.{resumed, room, Stops, IsFresh};
+    ghost use Rattle.connect.specs.Sessions.{resumed, room, Goes, Moves, MovesLast, Stops, Finishes, IsFresh};
 
     /// At the start of a script.
     #[tactic(auto, unfolding(crate::specs::Lines::is_line))]
-    pub(crate) fn new(alloc: Global) -> Session
-        ensures { IsFresh result }
+    pub(crate) fn new(alloc: Global, transactions: Transactions<D>) -> Session<D>
+        ensures { IsFresh transactions result }
     {
         Session {
-            player: Player::new(alloc),
+            player: Player::new(alloc, transactions),
             count: 0,
             pending: Vec::new(alloc),
         }
     }
 
+    /// Gives the transactions back.
+    pub(crate) fn give_back(self) -> Transactions<D>
+        ensures { result ≡ self.player.kept }
+    {
+        self.player.give_back()
+    }
+
     /// Takes bytes of the script.
     pub(crate) fn feed(&mut self, piece: &[u8]) -> Result<(), Status>
-        ensures go { OnOk result ((ended : Bool) (more : List ℕ) → resumed ended more self.new ≡ resumed ended (piece.now ++ more) self.old) }
-        ensures stop { IfErr result (λ status. (ended : Bool) (more : List ℕ) → Stops status self.new.player.text (resumed ended (piece.now ++ more) self.old)) }
+        requires alive { self.old.player.kept.log.shut ≡ false }
+        ensures go { OnOk result (Goes piece.now [] self.old self.new) }
+        ensures stop { IfErr result (λ status. (more : List ℕ) → Stops D.may_leave D.count ⊥ status (piece.now ++ more) self.new.player.text self.old self.new.player.kept) }
+        ensures moves { Moves D.moment D.left_since D.count piece.now self.old self.new.player.kept }
         ensures less { OnOk result (room self.new + length piece.now ≤ room self.old) }
     {
         let mut rest = piece;
@@ -55,8 +65,10 @@ impl Session {
 
     /// Takes the end of the script.
     pub(crate) fn finish(&mut self) -> Result<(), Status>
-        ensures go { OnOk result (Plays (resumed true [] self.old) None self.new.player.text) }
-        ensures stop { IfErr result (λ status. Stops status self.new.player.text (resumed true [] self.old)) }
+        requires alive { self.old.player.kept.log.shut ≡ false }
+        ensures go { OnOk result (Finishes self.new.player.text self.old self.new.player.kept) }
+        ensures stop { IfErr result (λ status. Stops D.may_leave D.count ⊥ status [] self.new.player.text self.old self.new.player.kept) }
+        ensures moves { MovesLast D.moment D.left_since D.count self.old self.new.player.kept }
     {
         if self.pending.is_empty() {
             return Ok(());
@@ -66,15 +78,28 @@ impl Session {
 
     // Takes the rest of a line, whose end is read.
     fn end_line(&mut self, tail: &[u8]) -> Result<(), Status>
-        requires { is_line tail.now ≡ true }
-        ensures go { OnOk result ((ended : Bool) (more : List ℕ) → resumed ended more self.new ≡ resumed ended (tail.now ++ 10 ∷ more) self.old) }
-        ensures stop { IfErr result (λ status. (ended : Bool) (more : List ℕ) → Stops status self.new.player.text (resumed ended (tail.now ++ 10 ∷ more) self.old)) }
+        requires alive { self.old.player.kept.log.shut ≡ false }
+        requires whole { is_line tail.now ≡ true }
+        ensures go { OnOk result (Goes (tail.now ++ 10 ∷ []) [] self.old self.new) }
+        ensures stop { IfErr result (λ status. (more : List ℕ) → Stops D.may_leave D.count ⊥ status (tail.now ++ 10 ∷ more) self.new.player.text self.old self.new.player.kept) }
+        ensures moves { Moves D.moment D.left_since D.count (tail.now ++ 10 ∷ []) self.old self.new.player.kept }
         ensures less { OnOk result (room self.new + length tail.now + 1 ≤ room self.old) }
     {
         if self.pending.is_empty() {
             return self.play_whole(tail);
         }
         self.hold(tail)?;
+        self.play_held()
+    }
+
+    // Plays the line that is pending, whose end is read.
+    fn play_held(&mut self) -> Result<(), Status>
+        requires alive { self.old.player.kept.log.shut ≡ false }
+        ensures go { OnOk result (Goes (10 ∷ []) [] self.old self.new) }
+        ensures stop { IfErr result (λ status. (more : List ℕ) → Stops D.may_leave D.count ⊥ status (10 ∷ more) self.new.player.text self.old self.new.player.kept) }
+        ensures moves { Moves D.moment D.left_since D.count (10 ∷ []) self.old self.new.player.kept }
+        ensures less { OnOk result (room self.new + 1 ≤ room self.old) }
+    {
         self.player.play_line(self.count + 1, &self.pending)?;
         self.pending.clear();
         self.count += 1;
@@ -83,10 +108,12 @@ impl Session {
 
     // Plays a line of which nothing was pending.
     fn play_whole(&mut self, line: &[u8]) -> Result<(), Status>
+        requires alive { self.old.player.kept.log.shut ≡ false }
         requires whole { is_line line.now ≡ true }
         requires alone { self.old.pending.items ≡ [] }
-        ensures go { OnOk result ((ended : Bool) (more : List ℕ) → resumed ended more self.new ≡ resumed ended (line.now ++ 10 ∷ more) self.old) }
-        ensures stop { IfErr result (λ status. (ended : Bool) (more : List ℕ) → Stops status self.new.player.text (resumed ended (line.now ++ 10 ∷ more) self.old)) }
+        ensures go { OnOk result (Goes (line.now ++ 10 ∷ []) [] self.old self.new) }
+        ensures stop { IfErr result (λ status. (more : List ℕ) → Stops D.may_leave D.count ⊥ status (line.now ++ 10 ∷ more) self.new.player.text self.old self.new.player.kept) }
+        ensures moves { Moves D.moment D.left_since D.count (line.now ++ 10 ∷ []) self.old self.new.player.kept }
         ensures less { OnOk result (room self.new + length line.now + 1 ≤ room self.old) }
     {
         self.player.play_line(self.count + 1, line)?;
@@ -96,13 +123,13 @@ impl Session {
 
     // Takes bytes of a line whose end isn't read yet.
     fn hold(&mut self, tail: &[u8]) -> Result<(), Status>
-        requires { is_line tail.now ≡ true }
-        ensures go { OnOk result ((ended : Bool) (more : List ℕ) → resumed ended more self.new ≡ resumed ended (tail.now ++ more) self.old) }
-        ensures stop { IfErr result (λ status. (ended : Bool) (more : List ℕ) → Stops status self.new.player.text (resumed ended (tail.now ++ more) self.old)) }
+        requires alive { self.old.player.kept.log.shut ≡ false }
+        requires whole { is_line tail.now ≡ true }
+        ensures go { OnOk result (Goes tail.now [] self.old self.new) }
+        ensures stop { IfErr result (λ status. (more : List ℕ) → Stops D.may_leave D.count ⊥ status (tail.now ++ more) self.new.player.text self.old self.new.player.kept) }
+        ensures moves { Moves D.moment D.left_since D.count tail.now self.old self.new.player.kept }
         ensures less { OnOk result (room self.new + length tail.now ≤ room self.old) }
-        ensures count { self.new.count ≡ self.old.count }
         ensures pending { OnOk result (self.new.pending.items ≡ self.old.pending.items ++ tail.now) }
-        ensures player { self.new.player ≡ self.old.player }
     {
         if tail.is_empty() {
             return Ok(());

@@ -2,7 +2,10 @@
 ghost use Rattle.std.specs.Prelude.{◌≡◌};
 ghost use Rattle.connect.specs.Statuses.{status_number};
 
+use crate::transactions::EventFault;
+use cw_log::Harm;
 use cw_script::{LineKind, ScriptFault};
+use cw_types::{DiskName, LogName};
 use std::alloc::{AllocError, AllocFailed};
 use std::fmt;
 
@@ -27,6 +30,31 @@ pub enum Status {
     ReadFault,
     /// Writing the output failed.
     WriteFault,
+    /// A disk failed.
+    StoreFault {
+        /// The disk.
+        disk: DiskName,
+        /// Its count of faults, which rose.
+        count: u64,
+    },
+    /// The bytes on a disk are no log of the cluster's.
+    Damaged {
+        /// The disk.
+        disk: DiskName,
+        /// The place of the gate that the harm is about.
+        at: u64,
+        /// The first harm.
+        harm: Harm,
+    },
+    /// A log has no room for the event in hand: `length + frame` passes 2^28.
+    Full {
+        /// The log.
+        log: LogName,
+        /// Its bytes, up to and with its closed gate.
+        length: u64,
+        /// The bytes that the event would append.
+        frame: u64,
+    },
     /// Want of memory.
     Memory,
 }
@@ -43,6 +71,9 @@ impl Status {
             Status::TooLong(_) => 2,
             Status::ReadFault => 3,
             Status::WriteFault => 4,
+            Status::StoreFault { .. } => 5,
+            Status::Damaged { .. } => 6,
+            Status::Full { .. } => 10,
             Status::Memory => 11,
         }
     }
@@ -62,6 +93,9 @@ impl fmt::Display for Status {
             Status::TooLong(_) => write!(f, "status 2 TooLong"),
             Status::ReadFault => write!(f, "status 3 ReadFault"),
             Status::WriteFault => write!(f, "status 4 WriteFault"),
+            Status::StoreFault { .. } => write!(f, "status 5 StoreFault"),
+            Status::Damaged { .. } => write!(f, "status 6 Damaged"),
+            Status::Full { .. } => write!(f, "status 10 Full"),
             Status::Memory => write!(f, "status 11 Memory"),
         }
     }
@@ -75,5 +109,27 @@ impl From<AllocError> for Status {
 
     fn from(_: AllocError) -> Status {
         Status::Memory
+    }
+}
+
+impl From<EventFault> for Status {
+    ghost use Rattle.std.specs.Prelude.{◌≡◌};
+    ghost use Rattle.connect.specs.Statuses.{status_of_event};
+
+    ghost from_gives = { λ fault status. status ≡ status_of_event fault };
+
+    fn from(fault: EventFault) -> Status {
+        match fault {
+            EventFault::StoreFault(count) => Status::StoreFault {
+                disk: DiskName::Txn,
+                count,
+            },
+            EventFault::Full { length, frame } => Status::Full {
+                log: LogName::Txn,
+                length,
+                frame,
+            },
+            EventFault::Memory => Status::Memory,
+        }
     }
 }

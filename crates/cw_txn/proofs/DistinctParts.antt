@@ -1,4 +1,4 @@
--- Spans of which no two name one part, span by span.
+-- Spans or offsets of which no two name one part, one by one.
 use Rattle.std.proofs.Common.{◌≡◌, ℕ, ◌+◌, ◌<◌, Bool, true, false, ◌||◌, List, [], ◌∷◌, ◌++◌, length, take, drop, map, slice_index_or, refl, sym, ap, subst, ◌∙◌}
 use Rattle.std.specs.List.{IsDistinct, AllByRecursion, list_any}
 use Rattle.std.specs.Cmp.{IsEquivalence}
@@ -18,9 +18,9 @@ part_equivalence = record {
   congr = λ x y z same. ap (λ (p : PartKey). same_part p z) ((same_part-Decides x y).0 same);
 }
 
-list_any-parts : (part : PartKey) (spans : List Span) → list_any (same_part part) (map part_of spans) ≡ list_any (λ (s : Span). same_part part s.part) spans
-list_any-parts part [] = refl
-list_any-parts part (span ∷ spans) = ap (λ b. same_part part span.part || b) (list_any-parts part spans)
+pub list_any-parts : {X : Type 0} (part_in : X → PartKey) (part : PartKey) (xs : List X) → list_any (same_part part) (map part_in xs) ≡ list_any (λ (x : X). same_part part (part_in x)) xs
+list_any-parts part_in part [] = refl
+list_any-parts part_in part (x ∷ xs) = ap (λ b. same_part part (part_in x) || b) (list_any-parts part_in part xs)
 
 neither : (a b : Bool) → a ≡ false → b ≡ false → (a || b) ≡ false
 neither true b first second = first
@@ -31,7 +31,7 @@ at_middle P [] y ys each = each.0
 at_middle P (x ∷ xs) y ys each = at_middle P xs y ys each.1
 
 -- a part of distinct ones is none of those before it
-none_before : (xs : List PartKey) (y : PartKey) (ys : List PartKey) → IsDistinct same_part (xs ++ y ∷ ys) → list_any (same_part y) xs ≡ false
+pub none_before : (xs : List PartKey) (y : PartKey) (ys : List PartKey) → IsDistinct same_part (xs ++ y ∷ ys) → list_any (same_part y) xs ≡ false
 none_before [] y ys distinct = refl
 none_before (x ∷ xs) y ys distinct = neither (same_part y x) (list_any (same_part y) xs)
     (same_part-flip y x ∙ at_middle (λ z. same_part x z ≡ false) xs y ys (IsDistinct-head same_part x (xs ++ y ∷ ys) distinct))
@@ -42,14 +42,14 @@ pub none_distinct : IsDistinct same_part []
 unfolding IsDistinct
 none_distinct = tt
 
-module _ (spans : List Span) (at : ℕ) (d : Span) (within : at < length spans) where
-  abbrev here : Span
-  here = slice_index_or spans at d
+module _ {X : Type 0} (part_in : X → PartKey) (xs : List X) (at : ℕ) (d : X) (within : at < length xs) where
+  abbrev here : X
+  here = slice_index_or xs at d
 
-  pub stay_distinct : IsDistinct same_part (map part_of (take at spans)) → list_any (λ (s : Span). same_part here.part s.part) (take at spans) ≡ false → IsDistinct same_part (map part_of (take (at + 1) spans))
-  stay_distinct distinct none = subst (IsDistinct same_part) (sym (ap (map part_of) (take_more spans at d within) ∙ map-append part_of (take at spans) (here ∷ [])))
-      (IsDistinct-push part_equivalence (map part_of (take at spans)) here.part distinct (list_any-parts here.part (take at spans) ∙ none))
+  pub stay_distinct : IsDistinct same_part (map part_in (take at xs)) → list_any (λ (x : X). same_part (part_in here) (part_in x)) (take at xs) ≡ false → IsDistinct same_part (map part_in (take (at + 1) xs))
+  stay_distinct distinct none = subst (IsDistinct same_part) (sym (ap (map part_in) (take_more xs at d within) ∙ map-append part_in (take at xs) (here ∷ [])))
+      (IsDistinct-push part_equivalence (map part_in (take at xs)) (part_in here) distinct (list_any-parts part_in (part_in here) (take at xs) ∙ none))
 
-  pub not_distinct : IsDistinct same_part (map part_of spans) → list_any (λ (s : Span). same_part here.part s.part) (take at spans) ≡ false
-  not_distinct distinct = sym (list_any-parts here.part (take at spans)) ∙ none_before (map part_of (take at spans)) here.part (map part_of (drop (at + 1) spans))
-      (subst (IsDistinct same_part) (ap (map part_of) (cut_at spans at here within (get_or_default spans at here d within)) ∙ map-append part_of (take at spans) (here ∷ drop (at + 1) spans)) distinct)
+  pub not_distinct : IsDistinct same_part (map part_in xs) → list_any (λ (x : X). same_part (part_in here) (part_in x)) (take at xs) ≡ false
+  not_distinct distinct = sym (list_any-parts part_in (part_in here) (take at xs)) ∙ none_before (map part_in (take at xs)) (part_in here) (map part_in (drop (at + 1) xs))
+      (subst (IsDistinct same_part) (ap (map part_in) (cut_at xs at here within (get_or_default xs at here d within)) ∙ map-append part_in (take at xs) (here ∷ drop (at + 1) xs)) distinct)

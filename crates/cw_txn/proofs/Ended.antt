@@ -23,7 +23,7 @@ use Rattle.cw_txn.specs.Tables.{is_of, parts_in, history_at, part_order}
 use Rattle.cw_txn.proofs.DistinctParts.{none_distinct}
 use Rattle.cw_txn.proofs.SameLemmas.{part_at, same_part-Decides}
 
-is_of-Decides : (connector : List ℕ) (part : PartKey) → Decides (is_of connector part) (connector_of part ≡ Some connector)
+pub is_of-Decides : (connector : List ℕ) (part : PartKey) → Decides (is_of connector part) (connector_of part ≡ Some connector)
 is_of-Decides connector (Raw a) = (λ e. cc, λ e. cc)
 is_of-Decides connector (File a f) = Decides-like (bytes_eq a connector) (ap Some) (λ e. cc) (bytes_eq-Decides a connector)
 is_of-Decides connector (Seq a i) = Decides-like (bytes_eq a connector) (ap Some) (λ e. cc) (bytes_eq-Decides a connector)

@@ -10,3 +10,8 @@ pub mod Ended
 pub mod DistinctParts
 pub mod Bodies
 pub mod Written
+pub mod AllowedLemmas
+pub mod Broken
+pub mod WalkLemmas
+pub mod Noted
+pub mod Mapped

@@ -1,7 +1,9 @@
 pub mod Same
 pub mod History
 pub mod Legal
+pub mod Allowed
 pub mod Transactions
 pub mod Tables
+pub mod Walk
 pub mod Body
 pub mod BodyReading

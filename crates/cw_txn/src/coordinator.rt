@@ -1,5 +1,5 @@
 //! The transaction coordinator.
-ghost use Rattle.std.specs.Prelude.{◌≡◌, ◌≢◌, ◌≤◌, ◌<◌, ◌+◌, ℕ, [], ◌∷◌, ◌++◌, List, length, map, Contains, All, IfOk, OnOk, OnErr, IsOk, IsTrue, ◌↔◌, false, vec_len, vec_capacity, MatchOption, slice_get, Some, unwrap_or};
+ghost use Rattle.std.specs.Prelude.{◌≡◌, ◌≢◌, ◌≤◌, ◌<◌, ◌+◌, ℕ, [], ◌∷◌, ◌++◌, List, length, map, Contains, All, IfOk, OnOk, OnErr, IsOk, IfErr, ⊤, IsTrue, ◌↔◌, false, vec_len, vec_capacity, MatchOption, slice_get, Some, unwrap_or};
 ghost use Rattle.std.specs.List.{IsDistinct, list_any};
 ghost use Rattle.cw_types.specs.declared.ids.PartKey.{PartKey};
 ghost use Rattle.cw_types.specs.declared.ids.Tid.{Tid};
@@ -7,9 +7,13 @@ ghost use Rattle.cw_types.specs.declared.ids.Tag.{Tag};
 ghost use Rattle.cw_txn.specs.declared.entry.Entry.{Entry};
 ghost use Rattle.cw_txn.specs.Same.{same_part};
 ghost use Rattle.cw_txn.specs.History.{history, base_of, end_of, GoesOn};
+ghost use Rattle.cw_txn.specs.Allowed.{AreAllowed, IsFirstNotAllowed, IsFirstUnchained, IsRaw};
+ghost use Rattle.cw_txn.specs.Walk.{OnListFault};
+ghost use Rattle.cw_txn.specs.Transactions.{AreNext};
 ghost use Rattle.cw_txn.specs.Legal.{epoch_of, is_committed, IsLegal, Chains, IsLegalBehind, ChainsBehind, AreNumbered};
 
 use crate::entry::{Entry, EntryRef, SetOffset};
+use crate::replay::{ListFault, replay};
 use crate::tables::Tables;
 use cw_types::{Decided, Epoch, Name, PartKey, Span, Tag, Tid, Verdict};
 use std::alloc::{AllocError, Global};
@@ -74,6 +78,26 @@ impl Coordinator {
             reserved: Vec::new(alloc),
             tables: Tables::new(alloc),
         }
+    }
+
+    /// The coordinator of a list of entries, as it is after they were written one after the other. A fault
+    /// names a place in the list: NotAllowed the first entry that may not stand where it does, else
+    /// Unchained the first of which a part doesn't chain.
+    pub fn of(alloc: Global, entries: Vec<Entry>) -> Result<Coordinator, ListFault>
+        ensures entries { IfOk result (λ c. c ≡ record { entries = entries.items; reserved = [] }) }
+        ensures allowed { OnOk result (AreAllowed entries.items) }
+        ensures chains { OnOk result ((part : PartKey) → Chains part entries.items) }
+        ensures fault { IfErr result (OnListFault (IsFirstNotAllowed entries.items)
+            (λ place. AreAllowed entries.items × IsFirstUnchained entries.items place) ⊤) }
+    {
+        let mut tables = Tables::new(alloc);
+        replay(alloc, &mut tables, entries.as_slice())?;
+        Ok(Coordinator {
+            alloc,
+            entries,
+            reserved: Vec::new(alloc),
+            tables,
+        })
     }
 
     /// The entries, the oldest first. They are legal, and every part's spans chain.
@@ -286,6 +310,17 @@ impl Decided for Coordinator {
     }
 }
 
+/// The law of allowed lists: they are legal, a script's transactions have their places as numbers, and a list stays
+/// allowed behind a bump, and behind a commit of a script under its producer's epoch, with its place as number.
+pub fn lists_stay_allowed()
+    ensures legal { (entries : List Entry) → AreAllowed entries → IsLegal entries }
+    ensures numbered { (entries : List Entry) → AreAllowed entries → AreNumbered entries }
+    ensures bump { (entries : List Entry) (tid : Tid) → AreAllowed entries → AreAllowed (entries ++ Entry.Bump tid ∷ []) }
+    ensures commit { (entries : List Entry) (tag : Tag) (generation : ℕ) (spans : List Span) (n : ℕ) → AreAllowed entries →
+        AreNext entries spans → All (λ span. IsRaw span.part) spans → tag.tid ≡ Tid.Raw n → tag.number ≡ length entries →
+        tag.epoch.0 ≡ epoch_of tag.tid entries → AreAllowed (entries ++ Entry.Commit tag generation spans ∷ []) }
+{}
+
 /// The law of a script's transactions: where each has its place in the list as its number, one with the
 /// list's length as number isn't committed yet, and the list stays so behind it, a bump and a set.
 pub fn raw_transactions_are_new()
@@ -304,7 +339,7 @@ ghost use Rattle.cw_txn.specs.declared.entry.SetOffset.{SetOffset};
 ghost use Rattle.cw_txn.specs.Tables.{entry_of, IsFirstAt, Keeps, HasRows, KeepsRows, SameRows};
 
 // Whether no part is in two of the spans.
-fn have_distinct_parts(spans: &[Span]) -> bool
+pub fn have_distinct_parts(spans: &[Span]) -> bool
     ensures { IsTrue result ↔ IsDistinct same_part (map (λ span. span.part) spans.now) }
 {
     for at in 0..spans.len() {

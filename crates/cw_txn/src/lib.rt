@@ -6,14 +6,17 @@
 //! It stands on the ids and spans of `cw_types` and the fields of `cw_bytes`.
 #![tactic(auto)]
 
+mod allowed;
 mod body;
 mod coordinator;
 mod entry;
+mod replay;
 mod rows;
 mod tables;
 #[cfg(test)]
 mod tests;
 
 pub use body::{BodyFault, read_entries, write_entries};
-pub use coordinator::{Coordinator, TxnFault, raw_transactions_are_new};
+pub use coordinator::{Coordinator, TxnFault, lists_stay_allowed, raw_transactions_are_new};
 pub use entry::{Entry, SetOffset};
+pub use replay::ListFault;

@@ -126,7 +126,7 @@ ghost use Rattle.cw_txn.specs.Tables.{epoch_at, committed_at, history_at, tid_or
 ghost use Rattle.cw_types.specs.declared.ids.Tag.{Tag};
 ghost use Rattle.std.specs.Str.{bytes_eq};
 
-fn is_of(part: &PartKey, connector: &Name) -> bool
+pub fn is_of(part: &PartKey, connector: &Name) -> bool
     ensures { result ≡ is_of connector.now part.now }
 {
     match part {
@@ -146,7 +146,7 @@ fn is_of(part: &PartKey, connector: &Name) -> bool
     }
 }
 
-fn same_names(a: &Name, b: &Name) -> bool
+pub fn same_names(a: &Name, b: &Name) -> bool
     ensures { result ≡ bytes_eq a.now b.now }
 {
     a == b

@@ -1,6 +1,9 @@
 //! Runs of the coordinator against answers that come from an independent model.
-use crate::{BodyFault, Coordinator, Entry, SetOffset, TxnFault, read_entries, write_entries};
+use crate::{
+    BodyFault, Coordinator, Entry, ListFault, SetOffset, TxnFault, read_entries, write_entries,
+};
 use cw_types::{Decided, Epoch, Listed, Name, PartKey, Span, Tag, TaskId, Tid, Verdict};
+use std::alloc::{AllocError, Global};
 use std::process::Abort;
 use std::test::Fail;
 
@@ -152,6 +155,101 @@ fn reserved_entries_are_written_and_given_up(rt: HostRuntime) -> Result<(), Fail
     txn.release();
     assert_eq!(rt; txn.entries().len(), 2);
     assert!(rt; txn.is_committed(&tag(1, 1, 1)));
+    Ok(())
+}
+
+// The offset 3 of a sink's topic.
+fn sink_set(alloc: Global, connector: &[u8], topic: &[u8]) -> Result<SetOffset, Fail> {
+    Ok(SetOffset {
+        part: PartKey::Sink {
+            connector: Name::read(alloc, connector)?,
+            topic: Name::read(alloc, topic)?,
+        },
+        to: Some(3),
+    })
+}
+
+// A list: one bump of producer 0, and then its commits of part 0.
+fn list_of(alloc: Global, commits: &[(u64, u64, u64, u64)]) -> Result<Vec<Entry>, AllocError> {
+    let mut entries = Vec::new(alloc);
+    entries.push(Entry::Bump(Tid::Raw(0)))?;
+    for &(epoch, number, from, to) in commits {
+        let mut spans = Vec::new(alloc);
+        spans.push(span(0, from, to))?;
+        entries.push(Entry::Commit {
+            tag: tag(0, epoch, number),
+            generation: 0,
+            spans: Listed::new(spans),
+        })?;
+    }
+    Ok(entries)
+}
+
+#[test]
+fn list_makes_its_coordinator_or_names_its_first_fault(rt: HostRuntime) -> Result<(), Fail> {
+    // (epoch, number, from, to) of two commits, and the fault
+    let table = [
+        ([(1, 1, 0, 5), (1, 2, 5, 9)], None),
+        ([(1, 1, 0, 5), (1, 3, 5, 9)], Some(ListFault::NotAllowed(2))),
+        ([(0, 1, 0, 5), (1, 2, 0, 9)], Some(ListFault::NotAllowed(1))),
+        ([(1, 1, 3, 5), (1, 2, 7, 9)], Some(ListFault::Unchained(1))),
+        ([(1, 1, 0, 5), (1, 2, 5, 5)], Some(ListFault::Unchained(2))),
+        ([(1, 1, 3, 5), (2, 2, 5, 9)], Some(ListFault::NotAllowed(2))),
+    ];
+    for (commits, fault) in table {
+        match Coordinator::of(rt.alloc(), list_of(rt.alloc(), &commits)?) {
+            Ok(txn) => {
+                assert!(rt; fault.is_none());
+                assert_eq!(rt; txn.length(), 3);
+                assert_eq!(rt; txn.epoch_of(&Tid::Raw(0)), 1);
+                assert!(rt; txn.end_of(&PartKey::Raw(0)) == Some(9));
+                assert!(rt; txn.is_committed(&tag(0, 1, 2)));
+            }
+            Err(found) => assert!(rt; fault == Some(found)),
+        }
+    }
+    Ok(())
+}
+
+#[test]
+fn sets_are_of_distinct_parts_of_their_producers_connector(rt: HostRuntime) -> Result<(), Fail> {
+    // (under the leader, or else a task; the connectors of two sink parts and their topics), and whether it is allowed
+    let table = [
+        (true, b"a", b"a", b"t", b"u", true),
+        (true, b"a", b"b", b"t", b"u", false),
+        (true, b"a", b"a", b"t", b"t", false),
+        (false, b"a", b"a", b"t", b"u", true),
+        (false, b"b", b"b", b"t", b"u", false),
+    ];
+    for (lead, first, second, topic, other, allowed) in table {
+        let mut list = Vec::new(rt.alloc());
+        list.push(sink_set(rt.alloc(), first, topic)?)?;
+        list.push(sink_set(rt.alloc(), second, other)?)?;
+        let tid = if lead {
+            Tid::Lead
+        } else {
+            Tid::Task(TaskId {
+                connector: Name::read(rt.alloc(), b"a")?,
+                index: 0,
+            })
+        };
+        let mut entries = Vec::new(rt.alloc());
+        entries.push(Entry::Set {
+            tid,
+            epoch: Epoch(0),
+            list: Listed::new(list),
+        })?;
+        match Coordinator::of(rt.alloc(), entries) {
+            Ok(txn) => {
+                assert!(rt; allowed);
+                assert_eq!(rt; txn.length(), 1);
+            }
+            Err(fault) => {
+                assert!(rt; !allowed);
+                assert!(rt; fault == ListFault::NotAllowed(0));
+            }
+        }
+    }
     Ok(())
 }
 

@@ -1,43 +1,74 @@
-use Rattle.std.proofs.Common.{◌≡◌, Ok, take, ap, arith}
-use Rattle.connect.specs.declared.status.Status.TheVariants.{ReadFault, Usage}
-use Rattle.connect.proofs.SoFar.{started, next, ended_in, at_end, read_failed, never_so}
+use Rattle.std.proofs.Common.{◌≡◌, ◌≤◌, Ok, [], take, refl, ap, ◌∙◌, arith}
+use Rattle.cw_types.specs.Faults.{Rose}
+use Rattle.connect.specs.declared.status.Status.TheVariants.{ReadFault}
+use Rattle.connect.proofs.EndLemmas.{moves_none}
+use Rattle.connect.proofs.SoFar.{started, next, ended_in, last_in, read_failed, takes_same, last_caused, piece_caused, caused_wider, moments_so_far, moments_last}
 use Rattle.connect.proofs.drive.drive_by.Goals as goal
 
-pub loop-session-init : goal.loop-session-init
-loop-session-init g c = record {
-  told = λ bytes is. started bytes (g.O.Sink.held c.args.output.now) c.new-session.result c.new-session.ensures (g.I.Source.left c.args.input.now) is;
-  some = c.requires;
+pub pieces-init : goal.pieces-init
+pieces-init g c = record {
+  far = started g.D.Disk.moment g.D.Disk.left_since g.D.Disk.may_leave g.D.Disk.count c.args.session.now c.requires.alive c.requires.fresh (g.I.Source.left c.args.input.now) (g.O.Sink.held c.args.output.now);
+  some = c.requires.some;
   later_in = omega arith;
   later_out = omega arith;
 }
 
 pub returns-in-Ok-eq0-clause-drives : goal.returns-in-Ok-eq0-clause-drives
 returns-in-Ok-eq0-clause-drives g c = λ bytes is.
-    let far = c.loop-session.invariant.told bytes is in
     let none : c.in-Ok-eq0.field-0 ≡ 0 = c.in-Ok-eq0.field-0-test in
-    at_end bytes (g.O.Sink.held c.args.output.now) (g.I.Source.left c.loop-session.input) (g.O.Sink.held c.loop-session.output) c.loop-session.session far
-    (take c.in-Ok-eq0.field-0 c.read.new.into) (g.I.Source.left c.read.new.self) c.in-Ok-eq0.ensures.taken c.last.result (g.O.Sink.held c.last.new.output)
-    (ap (λ n. take n c.read.new.into) none) (c.in-Ok-eq0.ensures.at_end (ap Ok none) c.loop-session.invariant.some far.rest far.left_over) c.last.ensures.ends
+    last_in g.D.Disk.moment g.D.Disk.left_since g.D.Disk.may_leave g.D.Disk.count c.args.session.now c.requires.alive c.requires.fresh (g.I.Source.left c.args.input.now) (g.O.Sink.held c.args.output.now) c.pieces.session (g.I.Source.left c.pieces.input) (g.O.Sink.held c.pieces.output) c.pieces.invariant.far
+    (Rose (g.O.Sink.faults c.pieces.output) (g.O.Sink.faults c.last.new.output)) (Rose (g.O.Sink.faults c.args.output.now) (g.O.Sink.faults c.last.new.output)) (λ rose. let was : (Rose (g.O.Sink.faults c.pieces.output) (g.O.Sink.faults c.last.new.output)) = rose in let before : g.O.Sink.faults c.args.output.now ≤ g.O.Sink.faults c.pieces.output = c.pieces.invariant.later_out in omega arith) c.last.new.session.player.kept
+    (take c.in-Ok-eq0.field-0 c.read.new.into) (g.I.Source.left c.read.new.self) (g.O.Sink.held c.last.new.output) c.in-Ok-eq0.ensures.taken
+    (ap (λ n. take n c.read.new.into) none) (c.in-Ok-eq0.ensures.at_end (ap Ok none) c.pieces.invariant.some) c.last.result c.last.ensures.ends bytes is
 
-pub returns-in-Ok-eq0-clause-write_fault : goal.returns-in-Ok-eq0-clause-write_fault
-returns-in-Ok-eq0-clause-write_fault g c = λ is. omega (arith, c.last.ensures.rose is)
+pub returns-in-Ok-eq0-clause-moments : goal.returns-in-Ok-eq0-clause-moments
+returns-in-Ok-eq0-clause-moments g c = λ bytes is told.
+    let none : c.in-Ok-eq0.field-0 ≡ 0 = c.in-Ok-eq0.field-0-test in
+    moments_last g.D.Disk.moment g.D.Disk.left_since g.D.Disk.may_leave g.D.Disk.count c.args.session.now c.requires.alive c.requires.fresh (g.I.Source.left c.args.input.now) (g.O.Sink.held c.args.output.now) c.pieces.session (g.I.Source.left c.pieces.input) (g.O.Sink.held c.pieces.output) c.pieces.invariant.far
+    c.last.new.session.player.kept (c.in-Ok-eq0.ensures.at_end (ap Ok none) c.pieces.invariant.some) c.last.ensures.moves bytes is told
+
+pub returns-in-Ok-eq0-clause-caused : goal.returns-in-Ok-eq0-clause-caused
+returns-in-Ok-eq0-clause-caused g c =
+    caused_wider (g.I.Source.faults c.args.input.now) (g.I.Source.faults c.args.input.now) (g.I.Source.faults c.read.new.self) (g.I.Source.faults c.read.new.self) (g.O.Sink.faults c.args.output.now) (g.O.Sink.faults c.pieces.output) (g.O.Sink.faults c.last.new.output) (g.O.Sink.faults c.last.new.output)
+    (g.D.Disk.count c.args.session.now.player.kept.log.disk) (g.D.Disk.count c.pieces.session.player.kept.log.disk) (g.D.Disk.count c.last.new.session.player.kept.log.disk) (omega arith) (omega arith) (omega arith) (omega arith) c.pieces.invariant.far.moves.later c.last.result
+    (last_caused g.D.Disk.moment g.D.Disk.left_since g.D.Disk.may_leave g.D.Disk.count c.args.session.now c.requires.alive c.requires.fresh (g.I.Source.left c.args.input.now) (g.O.Sink.held c.args.output.now) c.pieces.session (g.I.Source.left c.pieces.input) (g.O.Sink.held c.pieces.output) c.pieces.invariant.far (g.I.Source.faults c.args.input.now) (g.I.Source.faults c.read.new.self) (g.O.Sink.faults c.pieces.output) (g.O.Sink.faults c.last.new.output)
+    (Rose (g.O.Sink.faults c.pieces.output) (g.O.Sink.faults c.last.new.output)) (λ rose. rose) c.last.new.session.player.kept c.last.result (g.O.Sink.held c.last.new.output) c.last.ensures.ends)
+
+pub returns-in-Ok-eq0-clause-told : goal.returns-in-Ok-eq0-clause-told
+returns-in-Ok-eq0-clause-told g c = c.last.ensures.moves.told ∙ c.pieces.invariant.far.moves.told
+
+pub returns-in-Ok-eq0-clause-later : goal.returns-in-Ok-eq0-clause-later
+returns-in-Ok-eq0-clause-later g c = omega (arith, c.last.ensures.moves.later, c.pieces.invariant.far.moves.later)
 
 pub returns-in-Err-turn-clause-drives : goal.returns-in-Err-turn-clause-drives
 returns-in-Err-turn-clause-drives g c = λ bytes is.
-    ended_in bytes (g.O.Sink.held c.args.output.now) (g.I.Source.left c.loop-session.input) (g.O.Sink.held c.loop-session.output) c.loop-session.session (c.loop-session.invariant.told bytes is)
-    (take c.in-Ok.count c.read.new.into) (g.I.Source.left c.read.new.self) c.in-Ok.ensures.taken c.in-Err-turn.status (g.O.Sink.held c.turn.new.output) c.in-Err-turn.ensures.stop
+    ended_in g.D.Disk.moment g.D.Disk.left_since g.D.Disk.may_leave g.D.Disk.count c.args.session.now c.requires.alive c.requires.fresh (g.I.Source.left c.args.input.now) (g.O.Sink.held c.args.output.now) c.pieces.session (g.I.Source.left c.pieces.input) (g.O.Sink.held c.pieces.output) c.pieces.invariant.far
+    (Rose (g.O.Sink.faults c.pieces.output) (g.O.Sink.faults c.turn.new.output)) (Rose (g.O.Sink.faults c.args.output.now) (g.O.Sink.faults c.turn.new.output)) (λ rose. let was : (Rose (g.O.Sink.faults c.pieces.output) (g.O.Sink.faults c.turn.new.output)) = rose in let before : g.O.Sink.faults c.args.output.now ≤ g.O.Sink.faults c.pieces.output = c.pieces.invariant.later_out in omega arith) c.turn.new.session.player.kept
+    c.in-Err-turn.status (take c.in-Ok.count c.read.new.into) (g.I.Source.left c.read.new.self) (g.O.Sink.held c.turn.new.output) c.in-Ok.ensures.taken
+    c.in-Err-turn.ensures.stop.text c.in-Err-turn.ensures.stop.written (λ rest left. c.in-Err-turn.ensures.stop.stops rest) bytes is
 
-pub returns-in-Err-turn-clause-never_usage : goal.returns-in-Err-turn-clause-never_usage
-returns-in-Err-turn-clause-never_usage g c = λ is. never_so c.in-Err-turn.status Usage _ _ _ _ c.in-Err-turn.ensures.stop is (λ text p wrong. wrong)
+pub returns-in-Err-turn-clause-moments : goal.returns-in-Err-turn-clause-moments
+returns-in-Err-turn-clause-moments g c = λ bytes is told.
+    moments_so_far g.D.Disk.moment g.D.Disk.left_since g.D.Disk.may_leave g.D.Disk.count c.args.session.now c.requires.alive c.requires.fresh (g.I.Source.left c.args.input.now) (g.O.Sink.held c.args.output.now) c.pieces.session (g.I.Source.left c.pieces.input) (g.O.Sink.held c.pieces.output) c.pieces.invariant.far
+    (take c.in-Ok.count c.read.new.into) (g.I.Source.left c.read.new.self) c.turn.new.session.player.kept c.in-Ok.ensures.taken c.in-Err-turn.ensures.moves bytes is told
 
-pub returns-in-Err-turn-clause-read_fault : goal.returns-in-Err-turn-clause-read_fault
-returns-in-Err-turn-clause-read_fault g c = λ is. absurd (never_so c.in-Err-turn.status ReadFault _ _ _ _ c.in-Err-turn.ensures.stop is (λ text p wrong. wrong))
+pub returns-in-Err-turn-clause-caused : goal.returns-in-Err-turn-clause-caused
+returns-in-Err-turn-clause-caused g c =
+    caused_wider (g.I.Source.faults c.args.input.now) (g.I.Source.faults c.args.input.now) (g.I.Source.faults c.read.new.self) (g.I.Source.faults c.read.new.self) (g.O.Sink.faults c.args.output.now) (g.O.Sink.faults c.pieces.output) (g.O.Sink.faults c.turn.new.output) (g.O.Sink.faults c.turn.new.output)
+    (g.D.Disk.count c.args.session.now.player.kept.log.disk) (g.D.Disk.count c.pieces.session.player.kept.log.disk) (g.D.Disk.count c.turn.new.session.player.kept.log.disk) (omega arith) (omega arith) (omega arith) (omega arith) c.pieces.invariant.far.moves.later c.in-Err-turn.status
+    (piece_caused g.D.Disk.moment g.D.Disk.left_since g.D.Disk.may_leave g.D.Disk.count c.args.session.now c.requires.alive c.requires.fresh (g.I.Source.left c.args.input.now) (g.O.Sink.held c.args.output.now) c.pieces.session (g.I.Source.left c.pieces.input) (g.O.Sink.held c.pieces.output) c.pieces.invariant.far (g.I.Source.faults c.args.input.now) (g.I.Source.faults c.read.new.self) (g.O.Sink.faults c.pieces.output) (g.O.Sink.faults c.turn.new.output)
+    (Rose (g.O.Sink.faults c.pieces.output) (g.O.Sink.faults c.turn.new.output)) (λ rose. rose) c.turn.new.session.player.kept c.in-Err-turn.status (take c.in-Ok.count c.read.new.into) (g.O.Sink.held c.turn.new.output) c.in-Err-turn.ensures.stop)
 
-pub loop-session-preserved : goal.loop-session-preserved
-loop-session-preserved g c = record {
-  told = λ bytes is.
-      next bytes (g.O.Sink.held c.args.output.now) (g.I.Source.left c.loop-session.input) (g.O.Sink.held c.loop-session.output) c.loop-session.session (c.loop-session.invariant.told bytes is)
-      (take c.in-Ok.count c.read.new.into) (g.I.Source.left c.read.new.self) c.in-Ok.ensures.taken (g.O.Sink.held c.turn.new.output) c.turn.new.session c.in_default.ensures.go;
+pub returns-in-Err-turn-clause-told : goal.returns-in-Err-turn-clause-told
+returns-in-Err-turn-clause-told g c = c.in-Err-turn.ensures.moves.told ∙ c.pieces.invariant.far.moves.told
+
+pub returns-in-Err-turn-clause-later : goal.returns-in-Err-turn-clause-later
+returns-in-Err-turn-clause-later g c = omega (arith, c.in-Err-turn.ensures.moves.later, c.pieces.invariant.far.moves.later)
+
+pub pieces-preserved : goal.pieces-preserved
+pieces-preserved g c = record {
+  far = next g.D.Disk.moment g.D.Disk.left_since g.D.Disk.may_leave g.D.Disk.count c.args.session.now c.requires.alive c.requires.fresh (g.I.Source.left c.args.input.now) (g.O.Sink.held c.args.output.now) c.pieces.session (g.I.Source.left c.pieces.input) (g.O.Sink.held c.pieces.output) c.pieces.invariant.far
+      (take c.in-Ok.count c.read.new.into) (g.I.Source.left c.read.new.self) (g.O.Sink.held c.turn.new.output) c.turn.new.session c.in-Ok.ensures.taken c.in_default.ensures.go c.in_default.ensures.moves;
   some = omega arith;
   later_in = omega (arith, c.in-Ok.ensures.later);
   later_out = omega (arith, c.in_default.ensures.later);
@@ -45,4 +76,16 @@ loop-session-preserved g c = record {
 
 pub returns-in-Err-clause-drives : goal.returns-in-Err-clause-drives
 returns-in-Err-clause-drives g c = λ bytes is.
-    read_failed bytes (g.O.Sink.held c.args.output.now) (g.I.Source.left c.loop-session.input) (g.O.Sink.held c.loop-session.output) c.loop-session.session (c.loop-session.invariant.told bytes is) (g.I.Source.left c.read.new.self) c.in-Err.ensures.kept
+    read_failed g.D.Disk.moment g.D.Disk.left_since g.D.Disk.may_leave g.D.Disk.count c.args.session.now c.requires.alive c.requires.fresh (g.I.Source.left c.args.input.now) (g.O.Sink.held c.args.output.now) c.pieces.session (g.I.Source.left c.pieces.input) (g.O.Sink.held c.pieces.output) c.pieces.invariant.far (Rose (g.O.Sink.faults c.args.output.now) (g.O.Sink.faults c.pieces.output)) c.pieces.session.player.kept (g.I.Source.left c.read.new.self) c.in-Err.ensures.kept refl bytes is
+
+pub returns-in-Err-clause-moments : goal.returns-in-Err-clause-moments
+returns-in-Err-clause-moments g c = λ bytes is told.
+    moments_so_far g.D.Disk.moment g.D.Disk.left_since g.D.Disk.may_leave g.D.Disk.count c.args.session.now c.requires.alive c.requires.fresh (g.I.Source.left c.args.input.now) (g.O.Sink.held c.args.output.now) c.pieces.session (g.I.Source.left c.pieces.input) (g.O.Sink.held c.pieces.output) c.pieces.invariant.far
+    [] (g.I.Source.left c.read.new.self) c.pieces.session.player.kept (takes_same (g.I.Source.left c.pieces.input) (g.I.Source.left c.read.new.self) c.in-Err.ensures.kept)
+    (moves_none g.D.Disk.moment g.D.Disk.left_since g.D.Disk.count [] c.pieces.session c.pieces.session.player.kept refl) bytes is told
+
+pub returns-in-Err-clause-told : goal.returns-in-Err-clause-told
+returns-in-Err-clause-told g c = c.pieces.invariant.far.moves.told
+
+pub returns-in-Err-clause-later : goal.returns-in-Err-clause-later
+returns-in-Err-clause-later g c = c.pieces.invariant.far.moves.later

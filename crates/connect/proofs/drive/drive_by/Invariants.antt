@@ -1,16 +1,15 @@
-use Rattle.std.proofs.Common.{◌≡◌, ◌≤◌, ◌<◌, ℕ, List, Some, length}
+use Rattle.std.proofs.Common.{◌≤◌, ◌<◌, length}
 use Rattle.connect.specs.Sessions.{room}
 use Rattle.connect.proofs.SoFar.{SoFar}
 use Rattle.connect.proofs.drive.drive_by.Given as goal
 
-abbrev pub invariant-loop-session : goal.invariant-loop-session
-invariant-loop-session g l = record {
-  told : (bytes : List ℕ) → g.I.Source.left l.fn.input ≡ Some bytes
-      → SoFar bytes (g.I.Source.left l.input) (g.O.Sink.held l.fn.output) (g.O.Sink.held l.output) l.session;
+abbrev pub invariant-pieces : goal.invariant-pieces
+invariant-pieces g l = record {
+  far : SoFar g.D.Disk.moment g.D.Disk.left_since g.D.Disk.count l.fn.session l.session (g.I.Source.left l.fn.input) (g.I.Source.left l.input) (g.O.Sink.held l.fn.output) (g.O.Sink.held l.output);
   some : 0 < length l.piece;
   later_in : g.I.Source.faults l.fn.input ≤ g.I.Source.faults l.input;
   later_out : g.O.Sink.faults l.fn.output ≤ g.O.Sink.faults l.output;
 }
 
-abbrev pub decreases-loop-session : goal.decreases-loop-session
-decreases-loop-session g l = room l.session
+abbrev pub decreases-pieces : goal.decreases-pieces
+decreases-pieces g l = room l.session

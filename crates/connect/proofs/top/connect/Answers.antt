@@ -1,14 +1,28 @@
-use Rattle.connect.proofs.Safety.{run_is_safe}
-use Rattle.connect.proofs.SoFar.{done_or_memory}
+use Rattle.std.proofs.Common.{◌≡◌}
+use Rattle.connect.proofs.OneOpening.{safe_is_harmless}
+use Rattle.connect.proofs.Safety.{lines_are_safe}
+use Rattle.connect.proofs.TopLemmas.{refused_for, done_or_memory}
 use Rattle.connect.proofs.top.connect.Goals as goal
 
 pub returns-then-not-names_drive-clause-safe : goal.returns-then-not-names_drive-clause-safe
-returns-then-not-names_drive-clause-safe g c = run_is_safe
+returns-then-not-names_drive-clause-safe g c = λ store bytes lines safe. lines_are_safe lines bytes store safe
+
+pub returns-then-not-names_drive-clause-reopens : goal.returns-then-not-names_drive-clause-reopens
+returns-then-not-names_drive-clause-reopens g c = λ store image safe stands at harm harmed. safe_is_harmless image store at harm stands safe harmed
 
 pub returns-clause-safe : goal.returns-clause-safe
-returns-clause-safe g c = run_is_safe
+returns-clause-safe g c = λ store bytes lines safe. lines_are_safe lines bytes store safe
+
+pub returns-clause-reopens : goal.returns-clause-reopens
+returns-clause-reopens g c = λ store image safe stands at harm harmed. safe_is_harmless image store at harm stands safe harmed
+
+pub returns-clause-damaged : goal.returns-clause-damaged
+returns-clause-damaged g c = λ words file told at harm harmed.
+    refused_for g.D.Disk.holds g.D.Disk.may_leave g.D.Disk.moment g.D.Disk.left_since c.open_and_drive-driven.result.status _ (g.I.Source.left c.args.input.now) (g.I.Source.left c.open_and_drive-driven.new.input) (g.O.Sink.held c.args.output.now) (g.O.Sink.held c.open_and_drive-driven.new.output)
+    _ c.args.disks.txn c.open_and_drive-driven.result.disk c.open_and_drive-driven.ensures.runs c.open_and_drive-driven.ensures.damaged_only file told at harm harmed
 
 pub returns-clause-complete : goal.returns-clause-complete
-returns-clause-complete g c = λ bytes told words fine calm_in calm_out.
-    let run = c.drive.ensures.drives bytes told in
-    done_or_memory c.drive.result bytes run.taken run.rest run.text run.due fine (λ is. calm_in (c.drive.ensures.read_fault is)) (λ is. calm_out (c.drive.ensures.write_fault is))
+returns-clause-complete g c = λ words bytes told file holds_it store safe image fine calm_in calm_out calm_disk.
+    done_or_memory g.D.Disk.holds g.D.Disk.may_leave g.D.Disk.moment g.D.Disk.left_since c.open_and_drive-driven.result.status _ (g.I.Source.left c.args.input.now) (g.I.Source.left c.open_and_drive-driven.new.input) (g.O.Sink.held c.args.output.now) (g.O.Sink.held c.open_and_drive-driven.new.output)
+    _ c.args.disks.txn c.open_and_drive-driven.result.disk c.open_and_drive-driven.ensures.runs c.open_and_drive-driven.ensures.damaged_only bytes told file holds_it store safe image fine
+    (λ is. calm_in (c.open_and_drive-driven.ensures.read_fault is)) (λ is. calm_out (c.open_and_drive-driven.ensures.write_fault is)) (λ name count is. calm_disk ((c.open_and_drive-driven.ensures.store_fault name count is).1.rose))

@@ -1,21 +1,27 @@
-use Rattle.std.proofs.Common.{◌+◌, ℕ, List, ◌∷◌, ◌++◌, sym, ap, ◌∙◌, subst}
+use Rattle.std.proofs.Common.{◌+◌, ℕ, List, [], ◌∷◌, ◌++◌, refl, ap, ◌∙◌, append_assoc}
 use Rattle.std.proofs.lemmas.Result.{err_from_is_err_and}
-use Rattle.connect.specs.Lines.{lines_of}
-use Rattle.connect.specs.Run.{with_front, play}
-use Rattle.connect.specs.Sessions.{Stops}
-use Rattle.connect.proofs.PlayLemmas.{goes_behind, stops_behind}
+use Rattle.connect.proofs.EndLemmas.{goes_line}
+use Rattle.connect.proofs.SessionLemmas.{moves_whole, stops_whole}
 use Rattle.connect.proofs.session.Session.play_whole.Goals as goal
 
 pub returns-in_err-play_line-clause-stop : goal.returns-in_err-play_line-clause-stop
-returns-in_err-play_line-clause-stop c =
+returns-in_err-play_line-clause-stop g c =
     let p = err_from_is_err_and c.from_residual.result c.from_residual.ensures.1 in
-    rw (p.1, p.2) (λ ended more.
-    subst (λ (l : List ℕ). Stops c.in_err-play_line.field-0.0 c.play_line.new.self.text (with_front c.args.self.now.player.text (play ended (c.args.self.now.count + 1) (lines_of (l ++ (c.args.line.now ++ 10 ∷ more))) c.args.self.now.player.entries)))
-    (sym c.requires.alone)
-    (stops_behind ended (c.args.self.now.count + 1) c.args.line.now more c.args.self.now.player c.play_line.new.self c.requires.whole c.in_err-play_line.field-0.0 c.in_err-play_line.ensures.stop))
+    rw (p.1, p.2) (λ more.
+    stops_whole g.D.Disk.moment g.D.Disk.left_since g.D.Disk.may_leave g.D.Disk.count c.args.line.now (c.args.line.now ++ 10 ∷ more) more c.args.self.now c.play_line.new.self c.in_err-play_line.field-0.0 c.requires.whole
+    (ap (λ (b : List ℕ). b ++ (c.args.line.now ++ 10 ∷ more)) c.requires.alone) c.in_err-play_line.ensures.done)
+
+pub returns-in_err-play_line-clause-moves : goal.returns-in_err-play_line-clause-moves
+returns-in_err-play_line-clause-moves g c =
+    moves_whole g.D.Disk.moment g.D.Disk.left_since g.D.Disk.may_leave g.D.Disk.count c.args.line.now (c.args.line.now ++ 10 ∷ []) c.args.self.now _ c.requires.whole
+    (λ more. ap (λ (b : List ℕ). b ++ ((c.args.line.now ++ 10 ∷ []) ++ more)) c.requires.alone ∙ append_assoc c.args.line.now (10 ∷ []) more) c.in_err-play_line.ensures.steps
+
+pub returns-clause-moves : goal.returns-clause-moves
+returns-clause-moves g c =
+    moves_whole g.D.Disk.moment g.D.Disk.left_since g.D.Disk.may_leave g.D.Disk.count c.args.line.now (c.args.line.now ++ 10 ∷ []) c.args.self.now _ c.requires.whole
+    (λ more. ap (λ (b : List ℕ). b ++ ((c.args.line.now ++ 10 ∷ []) ++ more)) c.requires.alone ∙ append_assoc c.args.line.now (10 ∷ []) more) c.in_ok-play_line.ensures.steps
 
 pub returns-clause-go : goal.returns-clause-go
-returns-clause-go c = λ ended more.
-    ap (λ (l : List ℕ). with_front c.play_line.new.self.text (play ended (c.args.self.now.count + 1 + 1) (lines_of (l ++ more)) c.play_line.new.self.entries)) c.requires.alone
-    ∙ goes_behind ended (c.args.self.now.count + 1) c.args.line.now more c.args.self.now.player c.play_line.new.self c.requires.whole c.in_ok-play_line.ensures.go
-    ∙ ap (λ (l : List ℕ). with_front c.args.self.now.player.text (play ended (c.args.self.now.count + 1) (lines_of (l ++ (c.args.line.now ++ 10 ∷ more))) c.args.self.now.player.entries)) (sym c.requires.alone)
+returns-clause-go g c =
+    goes_line (c.args.self.now.count + 1) c.args.line.now (c.args.line.now ++ 10 ∷ []) c.args.self.now _ c.requires.whole refl refl c.requires.alone
+    (λ more. ap (λ (b : List ℕ). b ++ ((c.args.line.now ++ 10 ∷ []) ++ more)) c.requires.alone ∙ append_assoc c.args.line.now (10 ∷ []) more) c.in_ok-play_line.ensures.done

@@ -1,0 +1,56 @@
+-- Causes of a log that was not opened, and steps that only read it.
+use Rattle.std.proofs.Common.{◌≡◌, ℕ, List, length, replicate, ◌∙◌, ap, arith, length-append}
+use Rattle.std.proofs.lemmas.List.{length-replicate}
+use Rattle.cw_log.specs.declared.fault.Harm.{Harm}
+use Rattle.cw_log.specs.declared.fault.OpenCause.{OpenCause}
+use Rattle.cw_log.specs.declared.fault.OpenCause.TheVariants.{Damaged, Failed, Memory}
+use Rattle.cw_log.specs.Log.{OnCause}
+use Rattle.cw_log.specs.State.{LogState, HasSameList}
+use Rattle.connect.specs.declared.opening.Reading.{Reading}
+use Rattle.connect.specs.declared.opening.OpeningCause.{OpeningCause}
+use Rattle.connect.specs.declared.opening.OpeningCause.TheVariants as causes
+use Rattle.connect.specs.Harms.{OnOpeningCause}
+use Rattle.connect.specs.Reading.{TakesBody, IsAligned, IsCauseOf}
+
+pub OnCause-weaker : (damaged hurt : ℕ → Harm → Type 0) (failed broke memory want : Type 0) → ((at : ℕ) (harm : Harm) → damaged at harm → hurt at harm) → (failed → broke) → (memory → want)
+    → (cause : OpenCause) → OnCause damaged failed memory cause → OnCause hurt broke want cause
+OnCause-weaker damaged hurt failed broke memory want d f m (Damaged at harm) h = d at harm h
+OnCause-weaker damaged hurt failed broke memory want d f m Failed h = f h
+OnCause-weaker damaged hurt failed broke memory want d f m Memory h = m h
+
+-- a cause of the log as one of the opening
+pub OnOpeningCause-of : (damaged hurt : ℕ → Harm → Type 0) (failed memory want : Type 0) (fault : ℕ → Type 0) (count : ℕ) → ((at : ℕ) (harm : Harm) → damaged at harm → hurt at harm) → (failed → fault count) → (memory → want)
+    → (cause : OpenCause) (given : OpeningCause) → IsCauseOf count cause given → OnCause damaged failed memory cause → OnOpeningCause hurt fault want given
+OnOpeningCause-of damaged hurt failed memory want fault count d f m (Damaged at harm) given is h = rw is (d at harm h)
+OnOpeningCause-of damaged hurt failed memory want fault count d f m Failed given is h = rw is (f h)
+OnOpeningCause-of damaged hurt failed memory want fault count d f m Memory given is h = rw is (m h)
+
+pub OnOpeningCause-weaker : (damaged hurt : ℕ → Harm → Type 0) (fault broke : ℕ → Type 0) (memory want : Type 0) → ((at : ℕ) (harm : Harm) → damaged at harm → hurt at harm) → ((count : ℕ) → fault count → broke count) → (memory → want)
+    → (cause : OpeningCause) → OnOpeningCause damaged fault memory cause → OnOpeningCause hurt broke want cause
+OnOpeningCause-weaker damaged hurt fault broke memory want d f m (causes.Damaged at harm) h = d at harm h
+OnOpeningCause-weaker damaged hurt fault broke memory want d f m (causes.StoreFault count) h = f count h
+OnOpeningCause-weaker damaged hurt fault broke memory want d f m causes.Memory h = m h
+
+module _ {D : Type 0} where
+  pub HasSameList-then : (old mid new : LogState D) → HasSameList old mid → HasSameList mid new → HasSameList old new
+  HasSameList-then old mid new first second = record {
+    kind = second.kind ∙ first.kind;
+    bodies = second.bodies ∙ first.bodies;
+    count = second.count ∙ first.count;
+    length = second.length ∙ first.length;
+    limit = second.limit ∙ first.limit;
+    shut = second.shut ∙ first.shut;
+    ready = second.ready ∙ first.ready;
+  }
+
+-- one body more, and each entry still has a gate
+pub aligned_more : (body : List ℕ) (old new : Reading) → TakesBody body old new → IsAligned old → IsAligned new
+aligned_more body old new takes aligned = omega (
+  arith,
+  aligned,
+  ap length takes.entries,
+  ap length takes.gates,
+  length-append old.entries.items takes.group,
+  length-append old.gates.items (replicate (length takes.group) old.at),
+  length-replicate (length takes.group) old.at,
+)

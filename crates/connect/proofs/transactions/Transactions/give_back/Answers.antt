@@ -1,0 +1,11 @@
+use Rattle.std.proofs.Common.{◌∙◌, ap, subst}
+use Rattle.connect.specs.Store.{IsImage, store_of}
+use Rattle.connect.proofs.EventLemmas.{image_same}
+use Rattle.connect.proofs.transactions.Transactions.give_back.Goals as goal
+
+pub returns-clause-rest : goal.returns-clause-rest
+returns-clause-rest g c alive bodies told image left =
+    let there = ap (λ v. v.log.bodies) c.self.view_is ∙ told in
+    subst (λ v. IsImage (store_of v) image) c.self.view_is
+    (image_same c.self.inside.log c.self.inside.coordinator.entries c.self.invariant bodies there image
+    (c.give_back.ensures.rest (ap (λ v. v.log.shut) c.self.view_is ∙ alive) bodies there image left))

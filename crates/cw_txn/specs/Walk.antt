@@ -1,0 +1,56 @@
+-- What one walk over a list of entries finds. Internal but for what the faults of a list say.
+use Rattle.std.specs.Prelude.{◌≡◌, ℕ, Bool, true, false, List, [], ◌∷◌, ◌++◌, length, map, All, Option, Some, None, unwrap_or, is_some}
+use Rattle.std.specs.BTreeMap.{BTreeMap, get}
+use Rattle.std.specs.List.{list_any}
+use Rattle.cw_types.specs.declared.ids.PartKey.{PartKey}
+use Rattle.cw_types.specs.declared.ids.Span.{Span}
+use Rattle.cw_txn.specs.declared.entry.Entry.{Entry}
+use Rattle.cw_txn.specs.declared.entry.SetOffset.{SetOffset}
+use Rattle.cw_txn.specs.declared.tables.History.{History}
+use Rattle.cw_txn.specs.declared.tables.Tables.{Tables}
+use Rattle.cw_txn.specs.declared.replay.ListFault.{ListFault}
+use Rattle.cw_txn.specs.declared.replay.ListFault.TheVariants.{NotAllowed, Unchained, Memory}
+use Rattle.cw_txn.specs.Same.{same_part}
+use Rattle.cw_txn.specs.History.{GoesOn}
+use Rattle.cw_txn.specs.Legal.{Chains, ChainsBehind}
+use Rattle.cw_txn.specs.Allowed.{AreAllowed, IsFirstUnchained}
+use Rattle.cw_txn.specs.Tables.{Keeps, history_at, part_order}
+
+-- what each fault of a list says
+abbrev pub OnListFault : (not_allowed unchained : ℕ → Type 0) → (memory : Type 0) → ListFault → Type 0
+OnListFault not_allowed unchained memory (NotAllowed place) = not_allowed place
+OnListFault not_allowed unchained memory (Unchained place) = unchained place
+OnListFault not_allowed unchained memory Memory = memory
+
+-- every part chains, or this is the first place where one doesn't
+abbrev pub ChainsUpTo : List Entry → Option ℕ → Type 0
+ChainsUpTo entries None = (part : PartKey) → Chains part entries
+ChainsUpTo entries (Some place) = IsFirstUnchained entries place
+
+-- whether every part chains at an entry, or one doesn't
+abbrev pub IsChainTest : List Entry → Entry → Bool → Type 0
+IsChainTest before entry true = (part : PartKey) → ChainsBehind part before entry
+IsChainTest before entry false = (part : PartKey) × (¬ ChainsBehind part before entry)
+
+-- a span that doesn't go on from where its part ends in this table
+pub record HasBreak (parts : BTreeMap PartKey History) (spans : List Span) : Type 0 where
+  pub front : List Span
+  pub span : Span
+  pub back : List Span
+  pub split : spans ≡ front ++ span ∷ back
+  pub broken : ¬ GoesOn (history_at parts span.part) span
+
+-- whether each span goes on
+abbrev pub IsSpanTest : BTreeMap PartKey History → List Span → Bool → Type 0
+IsSpanTest parts spans true = All (λ span. GoesOn (history_at parts span.part) span) spans
+IsSpanTest parts spans false = HasBreak parts spans
+
+-- these entries are allowed, the tables are theirs, and this is the first that doesn't chain
+pub record Walked (tables : Tables) (entries : List Entry) (unchained : Option ℕ) : Type 0 where
+  pub allowed : AreAllowed entries
+  pub kept : Keeps tables entries
+  pub chained : ChainsUpTo entries unchained
+
+-- the table has a row for the parts of these offsets, and no other
+abbrev pub AreNoted : BTreeMap PartKey Bool → List SetOffset → Type 0
+AreNoted noted list = (part : PartKey) → is_some (get part_order noted part) ≡ list_any (λ (set : SetOffset). same_part part set.part) list
