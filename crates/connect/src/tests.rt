@@ -244,12 +244,15 @@ fn a_run_leaves_its_log_and_the_next_goes_on(rt: HostRuntime) -> Result<(), Fail
     let first = driven_on(&rt, MemDisk::empty(alloc), b"")?;
     assert_eq!(rt; first.status, Status::Done);
     assert_eq!(rt; first.disks.txn.bytes().len(), 17);
-    let second = driven_on(&rt, first.disks.txn, b"init 0\n")?;
+    let first_disks = first.disks;
+    let second = driven_on(&rt, first_disks.txn, b"init 0\n")?;
     assert_eq!(rt; second.disks.txn.bytes().len(), 32);
-    let third = driven_on(&rt, second.disks.txn, b"commit 0 1 0 5\n")?;
+    let second_disks = second.disks;
+    let third = driven_on(&rt, second_disks.txn, b"commit 0 1 0 5\n")?;
     assert_eq!(rt; third.text.as_slice(), b"committed 0 0 5\n".as_slice());
     assert_eq!(rt; third.disks.txn.bytes(), FIRST.as_slice());
-    let fourth = driven_on(&rt, third.disks.txn, b"commit 0 1 0 5\ninit 0\n")?;
+    let third_disks = third.disks;
+    let fourth = driven_on(&rt, third_disks.txn, b"commit 0 1 0 5\ninit 0\n")?;
     assert_eq!(rt; fourth.text.as_slice(), b"badcut 5 5\nepoch 2\n".as_slice());
     Ok(())
 }
