@@ -1,0 +1,111 @@
+-- What is looked up in a state: a worker's row, an instance, what a worker has read of the config log, what it holds, and
+-- which items are configured.
+use Rattle.std.specs.Prelude.{ℕ, ◌==◌, ◌&&◌, Bool, true, false, not, List, [], ◌∷◌, ◌++◌, map, take, length, nat_lt, slice_index_or, Option, Some, None, is_some, if◌then◌else◌}
+use Rattle.std.specs.List.{filter, filter_map, find, flat_map, list_any, range_with_len}
+use Rattle.cw_types.specs.declared.ids.Item.{Item}
+use Rattle.cw_types.specs.declared.ids.Item.TheVariants.{Connector, Task}
+use Rattle.cw_types.specs.declared.ids.Tid.{Tid}
+use Rattle.cw_types.specs.declared.ids.Tid.TheVariants.{Lead}
+use Rattle.cw_assign.specs.Items.{has, same_item, in_order}
+use Rattle.cw_group.specs.Members.{member_of}
+use Rattle.cw_group.specs.declared.member.Member.{Member}
+use Rattle.cw_config.specs.declared.records.ConfigRecord.{ConfigRecord}
+use Rattle.cw_config.specs.View.{config_of, task_count_of}
+use Rattle.cw_keys.specs.declared.config_key.ConfigKey.{ConfigKey}
+use Rattle.cw_keys.specs.declared.config_key.ConfigKey.TheVariants as key
+use Rattle.cw_txn.specs.Legal.{epoch_of}
+use Rattle.cw_model.specs.declared.row.Row.{Row}
+use Rattle.cw_model.specs.declared.row.RowPhase.TheVariants.{Out}
+use Rattle.cw_model.specs.declared.instance.Instance.{Instance}
+use Rattle.cw_model.specs.declared.instance.InstancePhase.{InstancePhase}
+use Rattle.cw_model.specs.declared.instance.InstancePhase.TheVariants as phase
+use Rattle.cw_model.specs.State.{Cluster}
+
+-- a worker as it is made: it lives and hears, and is no member
+abbrev pub new_row : Row
+new_row = record { live = true; hearing = true; incarnation = None; phase = Out; round = 0; assigned = []; revoked = []; prefix = 0; lead = None; fencing = None }
+
+-- a worker that never was, which counts as killed
+abbrev pub no_row : Row
+no_row = record { live = false; hearing = false; incarnation = None; phase = Out; round = 0; assigned = []; revoked = []; prefix = 0; lead = None; fencing = None }
+
+-- the row of a worker
+abbrev pub row_of : {J : Type 0} → ℕ → Cluster J → Row
+row_of w s = slice_index_or s.rows w no_row
+
+-- an instance that never was, which counts as ended
+abbrev pub no_instance : Instance
+no_instance = record {
+  worker = 0; item = Connector []; phase = phase.Ended; generation = 0; epoch = None; number = 0; task = None; positions = []; last = None; cut = None;
+  trace = None; reported = None;
+}
+
+-- the instance of a number
+abbrev pub instance_of : {J : Type 0} → ℕ → Cluster J → Instance
+instance_of i s = slice_index_or s.instances i no_instance
+
+-- what a worker has read of the config log
+abbrev pub seen : {J : Type 0} → ℕ → Cluster J → List ConfigRecord
+seen w s = take (row_of w s).prefix s.configs
+
+-- whether an instance has ended
+abbrev pub is_ended : InstancePhase → Bool
+is_ended phase.Connector = false
+is_ended phase.New = false
+is_ended phase.Inited = false
+is_ended phase.Verified = false
+is_ended phase.Polling = false
+is_ended phase.Produced = false
+is_ended phase.Offered = false
+is_ended phase.Delivered = false
+is_ended phase.Failed = false
+is_ended phase.Ended = true
+
+-- whether a worker has an instance, which hasn't ended
+abbrev pub is_at : ℕ → Instance → Bool
+is_at w i = (i.worker == w) && not (is_ended i.phase)
+
+-- what a worker holds: the items of its instances that haven't ended, in item order
+abbrev pub held : {J : Type 0} → ℕ → Cluster J → List Item
+held w s = in_order (map (λ i. i.item) (filter (is_at w) s.instances))
+
+-- whether the group knows a worker as the member as which it entered last
+abbrev pub is_same_incarnation : Option ℕ → Option Member → Bool
+is_same_incarnation None m = false
+is_same_incarnation (Some incarnation) None = false
+is_same_incarnation (Some incarnation) (Some m) = m.incarnation == incarnation
+
+-- a worker whose row has the incarnation that the group has for it
+abbrev pub is_member : {J : Type 0} → ℕ → Cluster J → Bool
+is_member w s = is_same_incarnation (row_of w s).incarnation (member_of w s.group.members)
+
+-- the connector of an item
+abbrev pub connector_of : Item → List ℕ
+connector_of (Connector name) = name
+connector_of (Task id) = id.connector
+
+-- a connector's name in a record of its config
+abbrev pub connector_key : ConfigKey → Option (List ℕ)
+connector_key (key.Connector name) = Some name
+connector_key (key.Task id) = None
+connector_key (key.Commit name) = None
+connector_key (key.Target name) = None
+connector_key (key.Fencing name) = None
+
+-- the items of a connector that is configured: itself and its tasks
+abbrev pub items_of : List ConfigRecord → List ℕ → List Item
+items_of records name = Connector name ∷ map (λ index. Task (record { connector = name; index = index })) (range_with_len 0 (task_count_of name records))
+
+-- the configured connectors' items, in item order
+abbrev pub configured_items : List ConfigRecord → List Item
+configured_items records =
+    in_order (flat_map (items_of records) (filter (λ name. is_some (config_of name records)) (filter_map (λ r. connector_key r.key) records)))
+
+-- whether an item is configured: its connector is, and a task's number is below the count
+abbrev pub is_configured : List ConfigRecord → Item → Bool
+is_configured records (Connector name) = is_some (config_of name records)
+is_configured records (Task id) = is_some (config_of id.connector records) && nat_lt id.index (task_count_of id.connector records)
+
+-- the last epoch of a producer
+abbrev pub last_epoch : {J : Type 0} → Tid → Cluster J → ℕ
+last_epoch tid s = epoch_of tid s.entries

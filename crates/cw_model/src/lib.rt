@@ -1,0 +1,18 @@
+//! The cluster as definitions: its state as a record of plain lists, each event as a function from a state to an
+//! answer and a state, the rules by which a worker ticks, and what it means that a state is safe.
+//!
+//! It holds no code of the cluster: the crates above prove that what they do is what stands here. Its public
+//! functions carry worked cases and laws of these definitions, each as a contract.
+//! It stands on the definitions of the pieces: names, transactions, the group and its plans, the config log,
+//! offsets, statuses, data, feeds and connector classes.
+#![tactic(auto)]
+
+mod fault;
+mod instance;
+mod row;
+mod tick;
+
+pub use fault::WorldFault;
+pub use instance::{Cut, Instance, InstancePhase, Trace};
+pub use row::{Fencing, Row, RowPhase};
+pub use tick::Tick;
