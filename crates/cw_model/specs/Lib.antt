@@ -1,2 +1,11 @@
 pub mod State
 pub mod Lookups
+pub mod Answers
+pub mod Bodies
+pub mod Updates
+pub mod EventsWorkers
+pub mod EventsGroups
+pub mod EventsItems
+pub mod EventsLeading
+pub mod EventsReports
+pub mod EventsMarking

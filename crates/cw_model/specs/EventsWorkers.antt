@@ -1,0 +1,53 @@
+-- Workers come, are killed, turn deaf and hear again; and the group lets a lost member go, whose items wait for it through the
+-- scheduled delay (KIP-415). That a worker may be deaf, and how many there are at most, is this project's own.
+use Rattle.std.specs.Prelude.{ℕ, ◌+◌, ◌-◌, ◌^◌, List, [], ◌∷◌, ◌++◌, length, min, true, false, nat_lt, if◌then◌else◌}
+use Rattle.cw_types.specs.declared.ids.Item.{Item}
+use Rattle.cw_assign.specs.declared.delay.Delay.{Delay}
+use Rattle.cw_assign.specs.declared.delay.Delay.TheVariants.{Idle, Until}
+use Rattle.cw_group.specs.Group.{GroupState, expire_row}
+use Rattle.cw_model.specs.declared.fault.WorldFault.TheVariants.{TooMany}
+use Rattle.cw_model.specs.declared.row.Row.{Row}
+use Rattle.cw_model.specs.State.{Setting, Cluster}
+use Rattle.cw_model.specs.Lookups.{new_row, is_at}
+use Rattle.cw_model.specs.Answers.{Answer, refused, answered, at_open, at_worker, at_group}
+use Rattle.cw_model.specs.Updates.{changes_row, ends_instances}
+
+-- how many workers there may be
+abbrev pub most_workers : ℕ
+most_workers = 64
+
+-- a new worker: the answer is its number
+abbrev pub spawn : {J : Type 0} → Cluster J → Answer J ℕ
+spawn = at_open (λ s. if nat_lt (length s.rows) most_workers
+    then answered (length s.rows) (record s { rows = s.rows ++ new_row ∷ [] })
+    else refused TooMany s)
+
+-- a worker that was killed
+abbrev pub killed : Row → Row
+killed row = record row { live = false }
+
+-- a worker is killed, and what it ran ends
+abbrev pub kill : {J : Type 0} → ℕ → Cluster J → Answer J (Unit {0})
+kill w = at_worker w (λ s. answered tt (ends_instances (is_at w) (changes_row w killed s)))
+
+-- a worker no longer hears the group
+abbrev pub deaf : {J : Type 0} → ℕ → Cluster J → Answer J (Unit {0})
+deaf w = at_worker w (λ s. answered tt (changes_row w (λ row. record row { hearing = false }) s))
+
+-- a worker hears the group again
+abbrev pub hear : {J : Type 0} → ℕ → Cluster J → Answer J (Unit {0})
+hear w = at_worker w (λ s. answered tt (changes_row w (λ row. record row { hearing = true }) s))
+
+-- the delay behind the loss of some items: it begins where it didn't run and something is lost
+abbrev pub delay_behind : (delay moment : ℕ) → List Item → Delay → Delay
+delay_behind delay moment [] running = running
+delay_behind delay moment (x ∷ lost) Idle = Until (min (moment + delay) (2 ^ 64 - 1))
+delay_behind delay moment (x ∷ lost) (Until at) = Until at
+
+-- a member has departed: what it might run is lost
+abbrev pub loses : {J : Type 0} → Setting → List Item × GroupState → Cluster J → Cluster J
+loses setting gone s = record s { group = gone.1; lost = s.lost ++ gone.0; delay = delay_behind setting.delay s.moment gone.0 s.delay }
+
+-- the group lets a member go
+abbrev pub expire : {J : Type 0} → Setting → ℕ → Cluster J → Answer J (Unit {0})
+expire setting w = at_open (λ s. at_group (expire_row w s.group) (λ gone. answered tt (loses setting gone s)) s)
