@@ -3,9 +3,14 @@ pub mod Lookups
 pub mod Answers
 pub mod Bodies
 pub mod Updates
+pub mod Tasks
 pub mod EventsWorkers
 pub mod EventsGroups
 pub mod EventsItems
 pub mod EventsLeading
+pub mod EventsSources
+pub mod EventsSinks
 pub mod EventsReports
 pub mod EventsMarking
+pub mod EventsCompaction
+pub mod EventsRaw

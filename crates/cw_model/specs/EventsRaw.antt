@@ -1,0 +1,50 @@
+-- Producers of a script: they bump their epochs and commit spans of parts that no connector has, judged by their epoch alone
+-- (KIP-98). Such producers and parts are this project's own.
+use Rattle.std.specs.Prelude.{ℕ, ◌≤◌, ◌==◌, Bool, List, [], ◌∷◌, map, length, nat_le, Option, Some, None, unwrap_or}
+use Rattle.std.specs.List.{find, IsDistinct}
+use Rattle.cw_types.specs.declared.ids.Epoch.{Epoch}
+use Rattle.cw_types.specs.declared.ids.PartKey.TheVariants.{Raw}
+use Rattle.cw_types.specs.declared.ids.Span.{Span}
+use Rattle.cw_types.specs.declared.ids.Tid.TheVariants.{Raw as RawTid}
+use Rattle.cw_txn.specs.declared.entry.Entry.{Entry}
+use Rattle.cw_txn.specs.declared.entry.Entry.TheVariants.{Commit}
+use Rattle.cw_txn.specs.History.{end_of}
+use Rattle.cw_model.specs.declared.fault.WorldFault.TheVariants.{Fenced, BadCut}
+use Rattle.cw_model.specs.State.{Cluster}
+use Rattle.cw_model.specs.Lookups.{last_epoch}
+use Rattle.cw_model.specs.Answers.{Answer, refused, at_open}
+use Rattle.cw_model.specs.Updates.{appends_entries, bumps, next_epoch, unless_fenced}
+
+-- a script's producer gets the next epoch
+abbrev pub raw_init : {J : Type 0} → ℕ → Cluster J → Answer J Epoch
+raw_init n = at_open (λ s. bumps (RawTid n) (λ t. t) (next_epoch (RawTid n) s) s)
+
+-- the span of a part up to a new end
+abbrev pub raw_span : List Entry → ℕ × ℕ → Span
+raw_span entries pair = record { part = Raw pair.0; from = unwrap_or (end_of (Raw pair.0) entries) 0; to = pair.1 }
+
+-- a span that doesn't grow its part
+abbrev pub is_bad_span : Span → Bool
+is_bad_span span = nat_le span.to span.from
+
+-- what is done with spans, unless one of them doesn't grow its part
+abbrev pub unless_bad : {J A : Type 0} → Option Span → Answer J A → Cluster J → Answer J A
+unless_bad None done s = done
+unless_bad (Some span) done s = refused (BadCut span.from span.to) s
+
+-- a transaction of a script's producer, numbered by its place in the list
+abbrev pub raw_commit_of : ℕ → Epoch → List Span → List Entry → Entry
+raw_commit_of n epoch spans entries = Commit (record { number = length entries; epoch = epoch; tid = RawTid n }) 0 spans
+
+-- a script's producer commits parts up to new ends: the answer is the spans
+abbrev pub raw_commit : {J : Type 0} → ℕ → Epoch → List (ℕ × ℕ) → Cluster J → Answer J (List Span)
+raw_commit n epoch list = at_open (λ s. let spans = map (raw_span s.entries) list in let last = last_epoch (RawTid n) s in
+    unless_fenced epoch.0 last (unless_bad (find is_bad_span spans)
+    (appends_entries (raw_commit_of n epoch spans s.entries ∷ []) (λ t. t) spans s) s)
+    (refused (Fenced epoch.0 last) s))
+
+-- 1 to 16 parts, none named twice
+pub record MayRawCommit (list : List (ℕ × ℕ)) : Type 0 where
+  pub some : 1 ≤ length list
+  pub few : length list ≤ 16
+  pub distinct : IsDistinct (λ a b. a == b) (map (λ (pair : ℕ × ℕ). pair.0) list)
