@@ -1,6 +1,6 @@
 -- What the leader writes, each under its lead epoch: configs, the bumps that fence the producers of older tasks, the record that
 -- says that they are fenced (KIP-618), and offsets that a user sets or resets (KIP-875).
-use Rattle.std.specs.Prelude.{◌≡◌, ℕ, ◌+◌, ◌<◌, ◌==◌, ◌&&◌, Bool, true, false, List, [], ◌∷◌, ◌++◌, map, All, Option, Some, None, IsSome, unwrap_or, bytes_eq, if◌then◌else◌}
+use Rattle.std.specs.Prelude.{◌≡◌, ℕ, ◌+◌, ◌<◌, ◌≤◌, ◌^◌, length, ◌==◌, ◌&&◌, Bool, true, false, List, [], ◌∷◌, ◌++◌, map, All, Option, Some, None, IsSome, unwrap_or, bytes_eq, if◌then◌else◌}
 use Rattle.std.specs.List.{range_with_len, IsDistinct}
 use Rattle.cw_types.specs.declared.ids.Epoch.{Epoch}
 use Rattle.cw_types.specs.declared.ids.Tid.{Tid}
@@ -22,6 +22,7 @@ use Rattle.cw_model.specs.declared.row.RowPhase.TheVariants.{Out, Joining, Stabl
 use Rattle.cw_model.specs.declared.row.Fencing.{Fencing}
 use Rattle.cw_model.specs.State.{Cluster}
 use Rattle.cw_model.specs.Lookups.{row_of, seen}
+use Rattle.cw_model.specs.ConfigsAllowed.{AreAllowedConfigs, is_fence_key}
 use Rattle.cw_model.specs.Answers.{Answer, refused, at_worker}
 use Rattle.cw_model.specs.Updates.{changes_row, next_config, stamped, appends_configs, appends_entries, bumps, next_epoch, as_leader}
 
@@ -46,6 +47,14 @@ MayClaim w s = leads w (row_of w s).phase ≡ true
 -- the leader writes records to the config log: the answer is the offset of the first
 abbrev pub append_config : {J : Type 0} → ℕ → List (ConfigKey × Option ConfigValue) → Cluster J → Answer J ℕ
 append_config w records = at_worker w (λ s. as_leader w (appends_configs (stamped records s) (λ t. t) (next_config s) s) s)
+
+-- 1 to 2^32 - 1 records, each allowed behind those before it, and none a fence
+pub record MayAppendConfig {J : Type 0} (w : ℕ) (records : List (ConfigKey × Option ConfigValue)) (s : Cluster J) : Type 0 where
+  pub leads : IsSome (row_of w s).lead
+  pub some : 1 ≤ length records
+  pub few : length records < 2 ^ 32
+  pub allowed : AreAllowedConfigs s.configs (stamped records s)
+  pub no_fence : All (λ (r : ConfigKey × Option ConfigValue). is_fence_key r.0 ≡ false) records
 
 -- a fencing of a connector's older tasks that has just begun
 abbrev pub new_fencing : {J : Type 0} → ℕ → List ℕ → Cluster J → Fencing

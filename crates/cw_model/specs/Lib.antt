@@ -4,6 +4,7 @@ pub mod Answers
 pub mod Bodies
 pub mod Updates
 pub mod Tasks
+pub mod ConfigsAllowed
 pub mod EventsWorkers
 pub mod EventsGroups
 pub mod EventsItems
@@ -14,3 +15,4 @@ pub mod EventsReports
 pub mod EventsMarking
 pub mod EventsCompaction
 pub mod EventsRaw
+pub mod Cases

@@ -7,6 +7,7 @@
 //! offsets, statuses, data, feeds and connector classes.
 #![tactic(auto)]
 
+pub mod cases;
 mod fault;
 mod instance;
 mod row;

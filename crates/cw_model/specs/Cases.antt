@@ -1,0 +1,144 @@
+-- Small states and steps for worked cases: one connector `s`, one or two workers, and what they run.
+use Rattle.std.specs.Prelude.{ℕ, List, [], ◌∷◌, map, Some, None, Result}
+use Rattle.std.specs.List.{fold}
+use Rattle.cw_types.specs.declared.ids.Epoch.{Epoch}
+use Rattle.cw_types.specs.declared.ids.Item.{Item}
+use Rattle.cw_types.specs.declared.ids.Item.TheVariants.{Connector, Task}
+use Rattle.cw_types.specs.declared.ids.PartKey.{PartKey}
+use Rattle.cw_types.specs.declared.ids.PartKey.TheVariants.{Seq}
+use Rattle.cw_types.specs.declared.ids.Tid.{Tid}
+use Rattle.cw_types.specs.declared.ids.Tid.TheVariants.{Lead, Task as TaskTid}
+use Rattle.cw_keys.specs.declared.config_key.ConfigKey.{ConfigKey}
+use Rattle.cw_keys.specs.declared.config_key.ConfigKey.TheVariants as key
+use Rattle.cw_keys.specs.declared.config_value.ConfigValue.{ConfigValue}
+use Rattle.cw_keys.specs.declared.config_value.ConfigValue.TheVariants as value
+use Rattle.cw_config.specs.declared.records.ConfigRecord.{ConfigRecord}
+use Rattle.cw_txn.specs.declared.entry.Entry.{Entry}
+use Rattle.cw_txn.specs.declared.entry.Entry.TheVariants.{Bump}
+use Rattle.cw_assign.specs.declared.delay.Delay.TheVariants.{Idle}
+use Rattle.cw_group.specs.Group.{empty_group}
+use Rattle.cw_plugin.specs.declared.class.Class.TheVariants.{SequenceSource}
+use Rattle.cw_plugin.specs.declared.task.TaskSpec.{TaskSpec}
+use Rattle.cw_model.specs.declared.fault.WorldFault.{WorldFault}
+use Rattle.cw_model.specs.declared.row.Row.{Row}
+use Rattle.cw_model.specs.declared.instance.Instance.{Instance}
+use Rattle.cw_model.specs.declared.instance.InstancePhase.{InstancePhase}
+use Rattle.cw_model.specs.State.{Setting, Cluster}
+use Rattle.cw_model.specs.Lookups.{new_row}
+use Rattle.cw_model.specs.Answers.{Answer}
+
+-- a cluster whose journal has numbers for its calls
+abbrev pub Small : Type 0
+Small = Cluster ℕ
+
+-- nothing stands in a log, and no worker is there
+abbrev pub empty_cluster : Small
+empty_cluster = record {
+  config = record { frames = []; side = 1 };
+  offsets = record { frames = []; side = 1 };
+  status = record { frames = []; side = 1 };
+  txn = [];
+  batches = [];
+  configs = [];
+  statuses = [];
+  entries = [];
+  group = empty_group;
+  lost = [];
+  delay = Idle;
+  moment = 0;
+  rows = [];
+  instances = [];
+  journal = [];
+  closed = None;
+}
+
+-- a group without feeds, whose lost members are waited for 300 milliseconds
+abbrev pub small_setting : Setting
+small_setting = record { group = []; delay = 300; feeds = [] }
+
+-- the state behind an event
+abbrev pub behind : {A : Type 0} → (Small → Answer ℕ A) → Small → Small
+behind event s = (event s).1
+
+-- what an event answers
+abbrev pub answer_of : {A : Type 0} → (Small → Answer ℕ A) → Small → Result A WorldFault
+answer_of event s = (event s).0
+
+-- the state behind several steps
+abbrev pub played : List (Small → Small) → Small → Small
+played steps s = fold (λ state step. step state) s steps
+
+-- the connector `s`, its tasks and their producers and parts
+abbrev pub name_s : List ℕ
+name_s = 115 ∷ []
+
+abbrev pub connector_s : Item
+connector_s = Connector name_s
+
+abbrev pub task_s : ℕ → Item
+task_s index = Task (record { connector = name_s; index = index })
+
+abbrev pub tid_s : ℕ → Tid
+tid_s index = TaskTid (record { connector = name_s; index = index })
+
+abbrev pub part_s : ℕ → PartKey
+part_s index = Seq name_s index
+
+abbrev pub epoch : ℕ → Epoch
+epoch n = record { 0 = n }
+
+-- a record of the config log, written before any transaction
+abbrev pub written : ℕ → ConfigKey → ConfigValue → ConfigRecord
+written offset record_key record_value = record { offset = offset; stamp = 0; key = record_key; value = Some record_value }
+
+-- the config of `s`, a commit of so many of its tasks, and the fence of the older ones
+abbrev pub configured_s : ℕ → ConfigRecord
+configured_s offset = written offset (key.Connector name_s) (value.Connector [])
+
+abbrev pub committed_s : ℕ → ℕ → ConfigRecord
+committed_s offset count = written offset (key.Commit name_s) (value.Commit count)
+
+abbrev pub fenced_s : ℕ → ℕ → ConfigRecord
+fenced_s offset count = written offset (key.Fencing name_s) (value.Fencing count)
+
+-- these records stand in the config log, each in a frame of its own
+abbrev pub with_records : List ConfigRecord → Small → Small
+with_records records s = record s { config = record { frames = map (λ r. r ∷ []) records; side = 1 }; configs = records }
+
+-- these entries stand in the transaction list, each in a frame of its own
+abbrev pub with_list : List Entry → Small → Small
+with_list entries s = record s { txn = map (λ e. e ∷ []) entries; entries = entries }
+
+-- a worker that leads under its first epoch, and has read so much
+abbrev pub leader_row : ℕ → Row
+leader_row prefix = record new_row { prefix = prefix; lead = Some (epoch 1) }
+
+-- a task of one sequence of three records
+abbrev pub spec_s : ℕ → TaskSpec
+spec_s index = record { class = SequenceSource; parts = part_s index ∷ []; topic = Some name_s; file = None; batch = 2; count = 3 }
+
+-- an instance of a task at worker 0, with its first epoch, which has taken its first two records
+abbrev pub instance_s : InstancePhase → ℕ → Instance
+instance_s phase generation = record {
+  worker = 0;
+  item = task_s 0;
+  phase = phase;
+  generation = generation;
+  epoch = Some (epoch 1);
+  number = 0;
+  task = Some (spec_s 0);
+  positions = 0 ∷ [];
+  last = Some 0;
+  cut = Some (record { turn = 0; from = 0; to = 2 });
+  trace = None;
+  reported = None;
+}
+
+-- `s` has an older task set, committed at offset 1 and fenced, and a newer one, committed at offset 3, which isn't fenced; worker 0
+-- leads, and an instance of a task of some generation is in some phase
+abbrev pub unfenced : InstancePhase → ℕ → Small
+unfenced phase generation = record (with_list (Bump Lead ∷ Bump (tid_s 0) ∷ [])
+    (with_records (configured_s 0 ∷ committed_s 1 1 ∷ fenced_s 2 1 ∷ committed_s 3 1 ∷ []) empty_cluster)) {
+      rows = leader_row 4 ∷ [];
+      instances = instance_s phase generation ∷ [];
+    }
