@@ -5,6 +5,11 @@ pub mod Bodies
 pub mod Updates
 pub mod Tasks
 pub mod ConfigsAllowed
+pub mod Fences
+pub mod Committed
+pub mod Safe
+pub mod Allowed
+pub mod StandsFor
 pub mod EventsWorkers
 pub mod EventsGroups
 pub mod EventsItems

@@ -1,0 +1,117 @@
+-- What may stand where in the logs, so that they may be opened: each record is judged by what stands before it in its log, and each transaction by the
+-- transaction list (KIP-98, KIP-618). That opening judges all of it is this project's own.
+use Rattle.std.specs.Prelude.{◌≡◌, ℕ, ◌≤◌, ◌<◌, ◌+◌, Bool, true, false, List, [], ◌∷◌, ◌++◌, fold, max, option_map, Option, Some, None, IsSome, IsOk}
+use Rattle.std.specs.Bool.{⊤}
+use Rattle.std.specs.Option.{IsSomeAnd}
+use Rattle.std.specs.List.{filter_map, flat_map, list_any, AllByRecursion}
+use Rattle.cw_types.specs.declared.ids.Tag.{Tag}
+use Rattle.cw_bytes.specs.declared.applied.Applied.{Applied}
+use Rattle.cw_keys.specs.Parts.{part_of}
+use Rattle.cw_keys.specs.Offsets.{offset_of}
+use Rattle.cw_keys.specs.Statuses.{status_of}
+use Rattle.cw_config.specs.declared.records.ConfigRecord.{ConfigRecord}
+use Rattle.cw_config.specs.Acceptance.{record_of}
+use Rattle.cw_txn.specs.declared.entry.Entry.{Entry}
+use Rattle.cw_txn.specs.Same.{same_tag}
+use Rattle.cw_txn.specs.Legal.{epoch_of, is_committed}
+use Rattle.cw_offset.specs.declared.body.OffsetEntry.{OffsetEntry}
+use Rattle.cw_offset.specs.declared.body.OffsetEntry.TheVariants as offset
+use Rattle.cw_data.specs.declared.entry.Batch.{Batch}
+use Rattle.cw_data.specs.declared.entry.DataEntry.{DataEntry}
+use Rattle.cw_data.specs.declared.entry.DataEntry.TheVariants as entry
+use Rattle.cw_feed.specs.Yield.{IsLine}
+use Rattle.cw_model.specs.Committed.{batch_in, batches_of, is_batch_of}
+
+-- a fact of each member of a list and all those before it
+abbrev pub EachFrom : {A : Type 0} → (List A → A → Type 0) → List A → List A → Type 0
+EachFrom P before [] = ⊤
+EachFrom P before (x ∷ xs) = P before x × EachFrom P (before ++ x ∷ []) xs
+
+-- ---- the config log
+
+-- the record that fields are, where key and value are in the grammar of the config topic
+abbrev pub config_in : Applied → Option ConfigRecord
+config_in a = record_of a.offset a.stamp a.key a.value
+
+abbrev pub configs_in : List (List Applied) → List ConfigRecord
+configs_in frames = filter_map config_in (flat_map (λ frame. frame) frames)
+
+-- ---- the status log
+
+-- one above the greatest of the offsets, 0 where there is none
+abbrev pub end_of : List Applied → ℕ
+end_of records = fold (λ end r. max end (r.offset + 1)) 0 records
+
+-- the status of an item that a value tells under its key
+abbrev pub IsStatusOf : List ℕ → Option (List ℕ) → Type 0
+IsStatusOf key None = ⊥
+IsStatusOf key (Some text) = IsOk (status_of key text)
+
+-- a status may stand behind these
+pub record IsAllowedStatus (before : List Applied) (r : Applied) : Type 0 where
+  pub above : end_of before ≤ r.offset
+  pub grammar : IsStatusOf r.key r.value
+
+-- ---- transactions in the offset log and the data log
+
+-- no epoch is ahead of its producer's last
+abbrev pub IsKnown : List Entry → Tag → Type 0
+IsKnown entries tag = tag.epoch.0 ≤ epoch_of tag.tid entries
+
+-- a marker of a transaction that stands in its log and has no marker there yet: it says commit just where that is committed, and abort only where its
+-- producer has a later epoch (KIP-98)
+pub record IsAllowedMark (entries : List Entry) (there marked : List Tag) (tag : Tag) (committed : Bool) : Type 0 where
+  pub known : IsKnown entries tag
+  pub stands : list_any (same_tag tag) there ≡ true
+  pub first : list_any (same_tag tag) marked ≡ false
+  pub tells : committed ≡ is_committed tag entries
+  pub ended : committed ≡ false → tag.epoch.0 < epoch_of tag.tid entries
+
+-- ---- the offset log
+
+-- the records, the transactions and the marked transactions of the offset log
+abbrev pub offset_records : OffsetEntry → List Applied
+offset_records (offset.Records tag records) = records
+offset_records (offset.Mark mark) = []
+
+abbrev pub offset_tag : OffsetEntry → Option Tag
+offset_tag (offset.Records tag records) = Some tag
+offset_tag (offset.Mark mark) = None
+
+abbrev pub offset_mark : OffsetEntry → Option Tag
+offset_mark (offset.Records tag records) = None
+offset_mark (offset.Mark mark) = Some mark.tag
+
+-- an offset of a part stands under the part's key
+abbrev pub IsOffsetOf : List ℕ → Option (List ℕ) → Type 0
+IsOffsetOf key None = ⊥
+IsOffsetOf key (Some text) = IsSomeAnd (part_of key) (λ part. IsSome (offset_of part text))
+
+-- an offset record may stand behind these
+pub record IsAllowedOffset (before : List Applied) (r : Applied) : Type 0 where
+  pub above : end_of before ≤ r.offset
+  pub grammar : IsOffsetOf r.key r.value
+
+-- an entry of the offset log may stand behind these
+abbrev pub IsAllowedStored : List Entry → List OffsetEntry → OffsetEntry → Type 0
+IsAllowedStored entries before (offset.Records tag records) = IsKnown entries tag × EachFrom IsAllowedOffset (flat_map offset_records before) records
+IsAllowedStored entries before (offset.Mark mark) = IsAllowedMark entries (filter_map offset_tag before) (filter_map offset_mark before) mark.tag mark.committed
+
+-- ---- the data log
+
+-- the marked transactions of the data log
+abbrev pub data_mark : DataEntry → Option Tag
+data_mark (entry.Batch batch) = None
+data_mark (entry.Mark tag committed) = Some tag
+
+-- a batch may stand behind these: it is its transaction's first of its part, and no line ends in a value
+pub record IsAllowedBatch (entries : List Entry) (before : List DataEntry) (batch : Batch) : Type 0 where
+  pub known : IsKnown entries batch.tag
+  pub first : list_any (is_batch_of batch.tag batch.part) (batches_of before) ≡ false
+  pub lines : AllByRecursion IsLine batch.values
+
+-- an entry of the data log may stand behind these
+abbrev pub IsAllowedData : List Entry → List DataEntry → DataEntry → Type 0
+IsAllowedData entries before (entry.Batch batch) = IsAllowedBatch entries before batch
+IsAllowedData entries before (entry.Mark tag committed) =
+    IsAllowedMark entries (filter_map (λ e. option_map (λ batch. batch.tag) (batch_in e)) before) (filter_map data_mark before) tag committed
