@@ -1,9 +1,8 @@
 -- What is committed of a source's part: the records of the transactions that were committed since its offset was last set, one after the other
 -- (KIP-618: records and offsets are committed together; KIP-875: offsets are set).
-use Rattle.std.specs.Prelude.{◌≡◌, ℕ, ◌&&◌, Bool, true, false, List, [], ◌∷◌, Option, Some, None, if◌then◌else◌}
-use Rattle.std.specs.Bool.{⊤}
+use Rattle.std.specs.Prelude.{◌≡◌, ℕ, ◌&&◌, Bool, true, false, List, [], Option, Some, None, if◌then◌else◌}
 use Rattle.std.specs.Option.{option_map_or}
-use Rattle.std.specs.List.{find, filter, filter_map, flat_map, list_any, after_last, AllByRecursion}
+use Rattle.std.specs.List.{find, filter_map, flat_map, list_any, after_last, AllByRecursion}
 use Rattle.cw_types.specs.declared.ids.Tid.{Tid}
 use Rattle.cw_types.specs.declared.ids.Tid.TheVariants.{Lead, Task, Raw}
 use Rattle.cw_types.specs.declared.ids.Tag.{Tag}

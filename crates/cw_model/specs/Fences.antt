@@ -1,6 +1,6 @@
 -- Fences of a connector's older tasks (KIP-618): behind the record of a fence, no task of an older set commits. That a fence's mark is the length of
 -- the transaction list, and a generation the offset of a commit record, is this project's own.
-use Rattle.std.specs.Prelude.{◌≡◌, ℕ, ◌≤◌, Bool, true, false, List, [], ◌∷◌, ◌++◌, length, drop, Option, Some, None}
+use Rattle.std.specs.Prelude.{◌≡◌, ℕ, ◌≤◌, true, List, ◌∷◌, ◌++◌, length, drop, Option, Some, None}
 use Rattle.std.specs.Bool.{⊤}
 use Rattle.std.specs.List.{AllByRecursion, before_last}
 use Rattle.cw_types.specs.declared.ids.Tid.{Tid}

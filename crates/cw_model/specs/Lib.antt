@@ -10,6 +10,7 @@ pub mod Committed
 pub mod Safe
 pub mod Allowed
 pub mod StandsFor
+pub mod Facts
 pub mod EventsWorkers
 pub mod EventsGroups
 pub mod EventsItems
@@ -20,4 +21,9 @@ pub mod EventsReports
 pub mod EventsMarking
 pub mod EventsCompaction
 pub mod EventsRaw
+pub mod Ready
+pub mod Proposals
+pub mod Tick
+pub mod TickText
+pub mod Quiet
 pub mod Cases

@@ -1,6 +1,6 @@
 -- What it means that a state of the cluster is safe: current members run disjoint connectors and tasks (KIP-415), behind a fence no task of an older
 -- set commits (KIP-618), and what is committed of each source's part is what the source yields, each record once and in order.
-use Rattle.std.specs.Prelude.{◌≡◌, ◌≢◌, ℕ, true, false, List, [], ◌∷◌, Option, unwrap_or}
+use Rattle.std.specs.Prelude.{◌≡◌, ◌≢◌, ℕ, true, false, List, [], ◌∷◌, unwrap_or}
 use Rattle.std.specs.Bool.{⊤}
 use Rattle.std.specs.List.{filter, AllByRecursion}
 use Rattle.cw_types.specs.declared.ids.Item.{Item}

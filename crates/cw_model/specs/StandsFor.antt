@@ -1,6 +1,6 @@
--- When what the log files hold stands for a state without workers, and which harm is met first where it doesn't. All of it is this project's own, as are
--- the files.
-use Rattle.std.specs.Prelude.{◌≡◌, ◌⊎◌, ℕ, ◌≤◌, Bool, true, List, [], ◌∷◌, ◌++◌, length, Option, Some, None, IsSome, Result, Ok, Err, option_and_then, fold}
+-- When what the log files hold stands for a state without workers, and which harm is met first where it doesn't. All of it is this
+-- project's own, as are the files.
+use Rattle.std.specs.Prelude.{◌≡◌, ◌⊎◌, ℕ, ◌≤◌, true, List, [], ◌∷◌, ◌++◌, length, Option, Some, None, IsSome, Result, Ok, Err, option_and_then}
 use Rattle.std.specs.Bool.{⊤}
 use Rattle.std.specs.Option.{IsSomeAnd}
 use Rattle.std.specs.List.{flat_map, AllZip, AllByRecursion, Any}
@@ -57,7 +57,7 @@ pub record Frames : Type 0 where
 abbrev pub joined : {A : Type 0} → List (List A) → List A
 joined frames = flat_map (λ frame. frame) frames
 
--- the transaction list that these frames hold, and the config list
+-- the transaction list that these frames hold
 abbrev pub entries_in : Frames → List Entry
 entries_in frames = joined frames.txn
 
@@ -91,7 +91,7 @@ pub record Judgement : Type 1 where
   pub sound : Type 0
   pub lacks : ℕ → Type 0
 
--- a list is judged by a fact of each member and all those before it
+-- a list is judged by a fact of each member and of all those before it
 abbrev pub judged : {A : Type 0} → (List A → A → Type 0) → List A → Judgement
 judged P xs = record { sound = EachFrom P [] xs; lacks = IsFirstLacking P xs }
 
