@@ -1,5 +1,5 @@
 -- Small states and steps for worked cases: one connector `s`, one or two workers, and what they run.
-use Rattle.std.specs.Prelude.{ℕ, List, [], ◌∷◌, map, Some, None, Result}
+use Rattle.std.specs.Prelude.{◌++◌, ◌^◌, ◌-◌, Option, ℕ, List, [], ◌∷◌, map, Some, None, Result}
 use Rattle.std.specs.List.{fold}
 use Rattle.cw_types.specs.declared.ids.Epoch.{Epoch}
 use Rattle.cw_types.specs.declared.ids.Item.{Item}
@@ -14,7 +14,11 @@ use Rattle.cw_keys.specs.declared.config_value.ConfigValue.{ConfigValue}
 use Rattle.cw_keys.specs.declared.config_value.ConfigValue.TheVariants as value
 use Rattle.cw_config.specs.declared.records.ConfigRecord.{ConfigRecord}
 use Rattle.cw_txn.specs.declared.entry.Entry.{Entry}
-use Rattle.cw_txn.specs.declared.entry.Entry.TheVariants.{Bump}
+use Rattle.cw_txn.specs.declared.entry.Entry.TheVariants.{Bump, Commit}
+use Rattle.cw_txn.specs.declared.entry.SetOffset.{SetOffset}
+use Rattle.cw_types.specs.declared.ids.Tag.{Tag}
+use Rattle.cw_types.specs.declared.ids.Span.{Span}
+use Rattle.cw_keys.specs.declared.target.Target.TheVariants.{Stopped}
 use Rattle.cw_assign.specs.declared.delay.Delay.TheVariants.{Idle}
 use Rattle.cw_group.specs.Group.{empty_group}
 use Rattle.cw_plugin.specs.declared.class.Class.TheVariants.{SequenceSource}
@@ -26,6 +30,10 @@ use Rattle.cw_model.specs.declared.instance.InstancePhase.{InstancePhase}
 use Rattle.cw_model.specs.State.{Setting, Cluster}
 use Rattle.cw_model.specs.Lookups.{new_row}
 use Rattle.cw_model.specs.Answers.{Answer}
+use Rattle.cw_model.specs.EventsWorkers.{spawn, kill, expire}
+use Rattle.cw_model.specs.EventsGroups.{join, close_round, store_plan, sync}
+use Rattle.cw_model.specs.EventsItems.{read_config, start_item, stop_item}
+use Rattle.cw_model.specs.EventsLeading.{append_config}
 
 -- a cluster whose journal has numbers for its calls
 abbrev pub Small : Type 0
@@ -87,6 +95,13 @@ part_s index = Seq name_s index
 abbrev pub epoch : ℕ → Epoch
 epoch n = record { 0 = n }
 
+-- the first transaction of its first task under some epoch, and a span of its part
+abbrev pub tag_s : ℕ → Tag
+tag_s n = record { number = 0; epoch = epoch n; tid = tid_s 0 }
+
+abbrev pub span_s : (from to : ℕ) → Span
+span_s from to = record { part = part_s 0; from = from; to = to }
+
 -- a record of the config log, written before any transaction
 abbrev pub written : ℕ → ConfigKey → ConfigValue → ConfigRecord
 written offset record_key record_value = record { offset = offset; stamp = 0; key = record_key; value = Some record_value }
@@ -142,3 +157,58 @@ unfenced phase generation = record (with_list (Bump Lead ∷ Bump (tid_s 0) ∷ 
       rows = leader_row 4 ∷ [];
       instances = instance_s phase generation ∷ [];
     }
+
+-- `s` has two tasks, which are fenced
+abbrev pub two_tasks : List ConfigRecord
+two_tasks = configured_s 0 ∷ committed_s 1 2 ∷ fenced_s 2 2 ∷ []
+
+-- worker 0 alone: it joins, closes the round, plans, and is told its share
+abbrev pub round_of_one : List (Small → Small)
+round_of_one = behind (join 0) ∷ behind (close_round 0) ∷ behind (store_plan 0) ∷ behind (sync 0) ∷ []
+
+-- workers 0 and 1: both join, worker 0 closes the round and plans, and both are told their shares
+abbrev pub round_of_two : List (Small → Small)
+round_of_two =
+    behind (join 1) ∷ behind (join 0) ∷ behind (close_round 0) ∷ behind (store_plan 0) ∷ behind (sync 0) ∷ behind (sync 1) ∷ []
+
+-- worker 0 runs the connector as instance 0, and its tasks as instances 1 and 2
+abbrev pub at_one_worker : Small
+at_one_worker = played
+    (behind spawn ∷ behind (read_config 0) ∷ round_of_one ++ behind (start_item 0 connector_s) ∷ behind (start_item 0 (task_s 0)) ∷ behind (start_item 0 (task_s 1)) ∷ [])
+    (with_records two_tasks empty_cluster)
+
+-- then worker 1 comes, and there is a round
+abbrev pub revoked_from_one : Small
+revoked_from_one = played (behind spawn ∷ behind (read_config 1) ∷ round_of_two) at_one_worker
+
+-- then worker 0 gives up its second task, there is another round, and worker 1 starts that task as instance 3
+abbrev pub at_two_workers : Small
+at_two_workers = played (behind (stop_item 2) ∷ round_of_two ++ behind (start_item 1 (task_s 1)) ∷ []) revoked_from_one
+
+-- then worker 1 is killed, and the group lets it go
+abbrev pub lost_one : Small
+lost_one = played (behind (kill 1) ∷ behind (expire small_setting 1) ∷ []) at_two_workers
+
+-- the same at another moment
+abbrev pub at_moment : ℕ → Small → Small
+at_moment moment s = record s { moment = moment }
+
+-- `s` has one task, which has committed its first two records; worker 0 leads
+abbrev pub producing : Small
+producing = record (with_list (Bump Lead ∷ Bump (tid_s 0) ∷ Commit (tag_s 1) 1 (span_s 0 2 ∷ []) ∷ [])
+    (with_records (configured_s 0 ∷ committed_s 1 1 ∷ fenced_s 2 1 ∷ []) empty_cluster)) { rows = leader_row 3 ∷ [] }
+
+-- what stops `s`: it has no tasks any more, and its target state is STOPPED
+abbrev pub stopping : List (ConfigKey × Option ConfigValue)
+stopping = (key.Commit name_s, Some (value.Commit 0)) ∷ (key.Target name_s, Some (value.Target Stopped)) ∷ []
+
+abbrev pub stopped : Small
+stopped = behind (append_config 0 stopping) producing
+
+-- the offset of the first part of `s` is set
+abbrev pub offset_set : Option ℕ → List SetOffset
+offset_set to = record { part = part_s 0; to = to } ∷ []
+
+-- the last record of the config log has the greatest offset that there is
+abbrev pub out_of_offsets : Small
+out_of_offsets = record (with_records (configured_s (2 ^ 64 - 1) ∷ []) empty_cluster) { rows = leader_row 1 ∷ []; txn = (Bump Lead ∷ []) ∷ []; entries = Bump Lead ∷ [] }
