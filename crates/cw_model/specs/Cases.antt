@@ -1,11 +1,11 @@
 -- Small states and steps for worked cases: one connector `s`, one or two workers, and what they run.
 use Rattle.std.specs.Prelude.{◌++◌, ◌^◌, ◌-◌, Option, ℕ, List, [], ◌∷◌, map, Some, None, Result}
-use Rattle.std.specs.List.{fold}
+use Rattle.std.specs.List.{fold, flat_map}
 use Rattle.cw_types.specs.declared.ids.Epoch.{Epoch}
 use Rattle.cw_types.specs.declared.ids.Item.{Item}
 use Rattle.cw_types.specs.declared.ids.Item.TheVariants.{Connector, Task}
 use Rattle.cw_types.specs.declared.ids.PartKey.{PartKey}
-use Rattle.cw_types.specs.declared.ids.PartKey.TheVariants.{Seq}
+use Rattle.cw_types.specs.declared.ids.PartKey.TheVariants.{Seq, Sink}
 use Rattle.cw_types.specs.declared.ids.Tid.{Tid}
 use Rattle.cw_types.specs.declared.ids.Tid.TheVariants.{Lead, Task as TaskTid}
 use Rattle.cw_keys.specs.declared.config_key.ConfigKey.{ConfigKey}
@@ -21,12 +21,17 @@ use Rattle.cw_types.specs.declared.ids.Span.{Span}
 use Rattle.cw_keys.specs.declared.target.Target.TheVariants.{Stopped}
 use Rattle.cw_assign.specs.declared.delay.Delay.TheVariants.{Idle}
 use Rattle.cw_group.specs.Group.{empty_group}
-use Rattle.cw_plugin.specs.declared.class.Class.TheVariants.{SequenceSource}
+use Rattle.cw_plugin.specs.declared.class.Class.TheVariants.{SequenceSource, FileStreamSink}
 use Rattle.cw_plugin.specs.declared.task.TaskSpec.{TaskSpec}
 use Rattle.cw_model.specs.declared.fault.WorldFault.{WorldFault}
 use Rattle.cw_model.specs.declared.row.Row.{Row}
 use Rattle.cw_model.specs.declared.instance.Instance.{Instance}
+use Rattle.cw_model.specs.declared.instance.Cut.{Cut}
 use Rattle.cw_model.specs.declared.instance.InstancePhase.{InstancePhase}
+use Rattle.cw_model.specs.declared.instance.InstancePhase.TheVariants.{Polling}
+use Rattle.cw_types.specs.declared.logs.LogName.TheVariants.{Batches}
+use Rattle.cw_model.specs.EventsSources.{produce, put_offsets, commit}
+use Rattle.cw_model.specs.EventsMarking.{mark}
 use Rattle.cw_model.specs.State.{Setting, Cluster}
 use Rattle.cw_model.specs.Lookups.{new_row}
 use Rattle.cw_model.specs.Answers.{Answer}
@@ -212,3 +217,57 @@ offset_set to = record { part = part_s 0; to = to } ∷ []
 -- the last record of the config log has the greatest offset that there is
 abbrev pub out_of_offsets : Small
 out_of_offsets = record (with_records (configured_s (2 ^ 64 - 1) ∷ []) empty_cluster) { rows = leader_row 1 ∷ []; txn = (Bump Lead ∷ []) ∷ []; entries = Bump Lead ∷ [] }
+
+-- `s` has one task that polls its sequence as instance 0; worker 0 leads
+abbrev pub polling : Small
+polling = record (with_list (Bump Lead ∷ Bump (tid_s 0) ∷ [])
+    (with_records (configured_s 0 ∷ committed_s 1 1 ∷ fenced_s 2 1 ∷ []) empty_cluster)) {
+      rows = leader_row 3 ∷ [];
+      instances = record (instance_s Polling 1) { last = None; cut = None } ∷ [];
+    }
+
+-- the task's first records, and more than there are
+abbrev pub cut_to : ℕ → Cut
+cut_to to = record { turn = 0; from = 0; to = to }
+
+-- the task has produced its first two records, then offered their offset, then committed both
+abbrev pub produced : Small
+produced = behind (produce small_setting 0 (cut_to 2)) polling
+
+abbrev pub offered : Small
+offered = behind (put_offsets 0) produced
+
+abbrev pub committed : Small
+committed = behind (commit 0) offered
+
+-- a connector `k` reads the topic `s` as a sink; its task polls as instance 1, and worker 0 has marked what the source committed
+abbrev pub sink_part : PartKey
+sink_part = Sink (107 ∷ []) name_s
+
+abbrev pub sink_task : Instance
+sink_task = record (instance_s Polling 1) {
+  item = Task (record { connector = 107 ∷ []; index = 0 });
+  epoch = Some (epoch 0);
+  task = Some (record (spec_s 0) { class = FileStreamSink; parts = sink_part ∷ []; topic = None; file = Some name_s });
+}
+
+abbrev pub sinking : Small
+sinking = record (behind (mark Batches) committed) { instances = committed.instances ++ sink_task ∷ [] }
+
+-- a config of the task `i` of `s`
+abbrev pub task_config_s : ℕ → ℕ → ConfigRecord
+task_config_s offset index = written offset (key.Task (record { connector = name_s; index = index })) (value.Task [])
+
+-- the config log of a connector that had three tasks and now has one
+abbrev pub two_task_sets : List (List ConfigRecord)
+two_task_sets =
+    (configured_s 0 ∷ []) ∷ (task_config_s 1 0 ∷ task_config_s 2 1 ∷ task_config_s 3 2 ∷ []) ∷ (committed_s 4 3 ∷ []) ∷ (fenced_s 5 3 ∷ []) ∷
+    (configured_s 6 ∷ []) ∷ (task_config_s 7 0 ∷ []) ∷ (committed_s 8 1 ∷ []) ∷ (fenced_s 9 1 ∷ []) ∷ []
+
+-- a cluster with this config log
+abbrev pub with_frames : List (List ConfigRecord) → Small
+with_frames frames = record empty_cluster { config = record { frames = frames; side = 1 }; configs = flat_map (λ frame. frame) frames }
+
+-- the offsets of what stands in the config log
+abbrev pub offsets_in : Small → List (List ℕ)
+offsets_in s = map (λ frame. map (λ r. r.offset) frame) s.config.frames

@@ -13,6 +13,7 @@ mod fault;
 mod instance;
 mod rebalances;
 mod row;
+mod steps;
 mod tick;
 
 pub use alterations::{
@@ -25,4 +26,9 @@ pub use fault::WorldFault;
 pub use instance::{Cut, Instance, InstancePhase, Trace};
 pub use rebalances::{lost_task_waits_through_the_delay, rebalance_revokes_before_it_gives};
 pub use row::{Fencing, Row, RowPhase};
+pub use steps::{
+    committed_records_are_stable_once_marked, config_log_keeps_the_last_of_each_key,
+    script_producer_is_judged_by_its_epoch, sink_stores_how_far_it_came,
+    task_commits_records_with_their_offset,
+};
 pub use tick::Tick;
