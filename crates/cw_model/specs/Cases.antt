@@ -1,11 +1,11 @@
 -- Small states and steps for worked cases: one connector `s`, one or two workers, and what they run.
-use Rattle.std.specs.Prelude.{ℕ, List, [], ◌∷◌, map, Some, None, Result}
-use Rattle.std.specs.List.{fold}
+use Rattle.std.specs.Prelude.{◌++◌, ◌^◌, ◌-◌, Option, ℕ, List, [], ◌∷◌, map, Some, None, Result}
+use Rattle.std.specs.List.{fold, flat_map}
 use Rattle.cw_types.specs.declared.ids.Epoch.{Epoch}
 use Rattle.cw_types.specs.declared.ids.Item.{Item}
 use Rattle.cw_types.specs.declared.ids.Item.TheVariants.{Connector, Task}
 use Rattle.cw_types.specs.declared.ids.PartKey.{PartKey}
-use Rattle.cw_types.specs.declared.ids.PartKey.TheVariants.{Seq}
+use Rattle.cw_types.specs.declared.ids.PartKey.TheVariants.{Seq, Sink}
 use Rattle.cw_types.specs.declared.ids.Tid.{Tid}
 use Rattle.cw_types.specs.declared.ids.Tid.TheVariants.{Lead, Task as TaskTid}
 use Rattle.cw_keys.specs.declared.config_key.ConfigKey.{ConfigKey}
@@ -14,18 +14,31 @@ use Rattle.cw_keys.specs.declared.config_value.ConfigValue.{ConfigValue}
 use Rattle.cw_keys.specs.declared.config_value.ConfigValue.TheVariants as value
 use Rattle.cw_config.specs.declared.records.ConfigRecord.{ConfigRecord}
 use Rattle.cw_txn.specs.declared.entry.Entry.{Entry}
-use Rattle.cw_txn.specs.declared.entry.Entry.TheVariants.{Bump}
+use Rattle.cw_txn.specs.declared.entry.Entry.TheVariants.{Bump, Commit}
+use Rattle.cw_txn.specs.declared.entry.SetOffset.{SetOffset}
+use Rattle.cw_types.specs.declared.ids.Tag.{Tag}
+use Rattle.cw_types.specs.declared.ids.Span.{Span}
+use Rattle.cw_keys.specs.declared.target.Target.TheVariants.{Stopped}
 use Rattle.cw_assign.specs.declared.delay.Delay.TheVariants.{Idle}
 use Rattle.cw_group.specs.Group.{empty_group}
-use Rattle.cw_plugin.specs.declared.class.Class.TheVariants.{SequenceSource}
+use Rattle.cw_plugin.specs.declared.class.Class.TheVariants.{SequenceSource, FileStreamSink}
 use Rattle.cw_plugin.specs.declared.task.TaskSpec.{TaskSpec}
 use Rattle.cw_model.specs.declared.fault.WorldFault.{WorldFault}
 use Rattle.cw_model.specs.declared.row.Row.{Row}
 use Rattle.cw_model.specs.declared.instance.Instance.{Instance}
+use Rattle.cw_model.specs.declared.instance.Cut.{Cut}
 use Rattle.cw_model.specs.declared.instance.InstancePhase.{InstancePhase}
+use Rattle.cw_model.specs.declared.instance.InstancePhase.TheVariants.{Polling}
+use Rattle.cw_types.specs.declared.logs.LogName.TheVariants.{Batches}
+use Rattle.cw_model.specs.EventsSources.{produce, put_offsets, commit}
+use Rattle.cw_model.specs.EventsMarking.{mark}
 use Rattle.cw_model.specs.State.{Setting, Cluster}
 use Rattle.cw_model.specs.Lookups.{new_row}
 use Rattle.cw_model.specs.Answers.{Answer}
+use Rattle.cw_model.specs.EventsWorkers.{spawn, kill, expire}
+use Rattle.cw_model.specs.EventsGroups.{join, close_round, store_plan, sync}
+use Rattle.cw_model.specs.EventsItems.{read_config, start_item, stop_item}
+use Rattle.cw_model.specs.EventsLeading.{append_config}
 
 -- a cluster whose journal has numbers for its calls
 abbrev pub Small : Type 0
@@ -87,6 +100,13 @@ part_s index = Seq name_s index
 abbrev pub epoch : ℕ → Epoch
 epoch n = record { 0 = n }
 
+-- the first transaction of its first task under some epoch, and a span of its part
+abbrev pub tag_s : ℕ → Tag
+tag_s n = record { number = 0; epoch = epoch n; tid = tid_s 0 }
+
+abbrev pub span_s : (from to : ℕ) → Span
+span_s from to = record { part = part_s 0; from = from; to = to }
+
 -- a record of the config log, written before any transaction
 abbrev pub written : ℕ → ConfigKey → ConfigValue → ConfigRecord
 written offset record_key record_value = record { offset = offset; stamp = 0; key = record_key; value = Some record_value }
@@ -142,3 +162,112 @@ unfenced phase generation = record (with_list (Bump Lead ∷ Bump (tid_s 0) ∷ 
       rows = leader_row 4 ∷ [];
       instances = instance_s phase generation ∷ [];
     }
+
+-- `s` has two tasks, which are fenced
+abbrev pub two_tasks : List ConfigRecord
+two_tasks = configured_s 0 ∷ committed_s 1 2 ∷ fenced_s 2 2 ∷ []
+
+-- worker 0 alone: it joins, closes the round, plans, and is told its share
+abbrev pub round_of_one : List (Small → Small)
+round_of_one = behind (join 0) ∷ behind (close_round 0) ∷ behind (store_plan 0) ∷ behind (sync 0) ∷ []
+
+-- workers 0 and 1: both join, worker 0 closes the round and plans, and both are told their shares
+abbrev pub round_of_two : List (Small → Small)
+round_of_two =
+    behind (join 1) ∷ behind (join 0) ∷ behind (close_round 0) ∷ behind (store_plan 0) ∷ behind (sync 0) ∷ behind (sync 1) ∷ []
+
+-- worker 0 runs the connector as instance 0, and its tasks as instances 1 and 2
+abbrev pub at_one_worker : Small
+at_one_worker = played
+    (behind spawn ∷ behind (read_config 0) ∷ round_of_one ++ behind (start_item 0 connector_s) ∷ behind (start_item 0 (task_s 0)) ∷ behind (start_item 0 (task_s 1)) ∷ [])
+    (with_records two_tasks empty_cluster)
+
+-- then worker 1 comes, and there is a round
+abbrev pub revoked_from_one : Small
+revoked_from_one = played (behind spawn ∷ behind (read_config 1) ∷ round_of_two) at_one_worker
+
+-- then worker 0 gives up its second task, there is another round, and worker 1 starts that task as instance 3
+abbrev pub at_two_workers : Small
+at_two_workers = played (behind (stop_item 2) ∷ round_of_two ++ behind (start_item 1 (task_s 1)) ∷ []) revoked_from_one
+
+-- then worker 1 is killed, and the group lets it go
+abbrev pub lost_one : Small
+lost_one = played (behind (kill 1) ∷ behind (expire small_setting 1) ∷ []) at_two_workers
+
+-- the same at another moment
+abbrev pub at_moment : ℕ → Small → Small
+at_moment moment s = record s { moment = moment }
+
+-- `s` has one task, which has committed its first two records; worker 0 leads
+abbrev pub producing : Small
+producing = record (with_list (Bump Lead ∷ Bump (tid_s 0) ∷ Commit (tag_s 1) 1 (span_s 0 2 ∷ []) ∷ [])
+    (with_records (configured_s 0 ∷ committed_s 1 1 ∷ fenced_s 2 1 ∷ []) empty_cluster)) { rows = leader_row 3 ∷ [] }
+
+-- what stops `s`: it has no tasks any more, and its target state is STOPPED
+abbrev pub stopping : List (ConfigKey × Option ConfigValue)
+stopping = (key.Commit name_s, Some (value.Commit 0)) ∷ (key.Target name_s, Some (value.Target Stopped)) ∷ []
+
+abbrev pub stopped : Small
+stopped = behind (append_config 0 stopping) producing
+
+-- the offset of the first part of `s` is set
+abbrev pub offset_set : Option ℕ → List SetOffset
+offset_set to = record { part = part_s 0; to = to } ∷ []
+
+-- the last record of the config log has the greatest offset that there is
+abbrev pub out_of_offsets : Small
+out_of_offsets = record (with_records (configured_s (2 ^ 64 - 1) ∷ []) empty_cluster) { rows = leader_row 1 ∷ []; txn = (Bump Lead ∷ []) ∷ []; entries = Bump Lead ∷ [] }
+
+-- `s` has one task that polls its sequence as instance 0; worker 0 leads
+abbrev pub polling : Small
+polling = record (with_list (Bump Lead ∷ Bump (tid_s 0) ∷ [])
+    (with_records (configured_s 0 ∷ committed_s 1 1 ∷ fenced_s 2 1 ∷ []) empty_cluster)) {
+      rows = leader_row 3 ∷ [];
+      instances = record (instance_s Polling 1) { last = None; cut = None } ∷ [];
+    }
+
+-- the task's first records, and more than there are
+abbrev pub cut_to : ℕ → Cut
+cut_to to = record { turn = 0; from = 0; to = to }
+
+-- the task has produced its first two records, then offered their offset, then committed both
+abbrev pub produced : Small
+produced = behind (produce small_setting 0 (cut_to 2)) polling
+
+abbrev pub offered : Small
+offered = behind (put_offsets 0) produced
+
+abbrev pub committed : Small
+committed = behind (commit 0) offered
+
+-- a connector `k` reads the topic `s` as a sink; its task polls as instance 1, and worker 0 has marked what the source committed
+abbrev pub sink_part : PartKey
+sink_part = Sink (107 ∷ []) name_s
+
+abbrev pub sink_task : Instance
+sink_task = record (instance_s Polling 1) {
+  item = Task (record { connector = 107 ∷ []; index = 0 });
+  epoch = Some (epoch 0);
+  task = Some (record (spec_s 0) { class = FileStreamSink; parts = sink_part ∷ []; topic = None; file = Some name_s });
+}
+
+abbrev pub sinking : Small
+sinking = record (behind (mark Batches) committed) { instances = committed.instances ++ sink_task ∷ [] }
+
+-- a config of the task `i` of `s`
+abbrev pub task_config_s : ℕ → ℕ → ConfigRecord
+task_config_s offset index = written offset (key.Task (record { connector = name_s; index = index })) (value.Task [])
+
+-- the config log of a connector that had three tasks and now has one
+abbrev pub two_task_sets : List (List ConfigRecord)
+two_task_sets =
+    (configured_s 0 ∷ []) ∷ (task_config_s 1 0 ∷ task_config_s 2 1 ∷ task_config_s 3 2 ∷ []) ∷ (committed_s 4 3 ∷ []) ∷ (fenced_s 5 3 ∷ []) ∷
+    (configured_s 6 ∷ []) ∷ (task_config_s 7 0 ∷ []) ∷ (committed_s 8 1 ∷ []) ∷ (fenced_s 9 1 ∷ []) ∷ []
+
+-- a cluster with this config log
+abbrev pub with_frames : List (List ConfigRecord) → Small
+with_frames frames = record empty_cluster { config = record { frames = frames; side = 1 }; configs = flat_map (λ frame. frame) frames }
+
+-- the offsets of what stands in the config log
+abbrev pub offsets_in : Small → List (List ℕ)
+offsets_in s = map (λ frame. map (λ r. r.offset) frame) s.config.frames

@@ -7,13 +7,28 @@
 //! offsets, statuses, data, feeds and connector classes.
 #![tactic(auto)]
 
-pub mod cases;
+mod alterations;
+mod cases;
 mod fault;
 mod instance;
+mod rebalances;
 mod row;
+mod steps;
 mod tick;
 
+pub use alterations::{
+    config_log_without_offsets_is_full, offsets_are_altered_once_stopped, offsets_are_reset,
+};
+pub use cases::{
+    late_task_is_stale, new_task_waits_for_its_fence, zombie_commits_no_more_once_fenced,
+};
 pub use fault::WorldFault;
 pub use instance::{Cut, Instance, InstancePhase, Trace};
+pub use rebalances::{lost_task_waits_through_the_delay, rebalance_revokes_before_it_gives};
 pub use row::{Fencing, Row, RowPhase};
+pub use steps::{
+    committed_records_are_stable_once_marked, config_log_keeps_the_last_of_each_key,
+    script_producer_is_judged_by_its_epoch, sink_stores_how_far_it_came,
+    task_commits_records_with_their_offset,
+};
 pub use tick::Tick;
