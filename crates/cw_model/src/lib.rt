@@ -15,9 +15,11 @@ mod rebalances;
 mod row;
 mod steps;
 mod tick;
+mod yields;
 
 pub use alterations::{
-    config_log_without_offsets_is_full, offsets_are_altered_once_stopped, offsets_are_reset,
+    config_log_without_offsets_is_full, config_log_without_room_is_full,
+    offsets_are_altered_once_stopped, offsets_are_reset,
 };
 pub use cases::{
     late_task_is_stale, new_task_waits_for_its_fence, zombie_commits_no_more_once_fenced,
@@ -32,3 +34,4 @@ pub use steps::{
     task_commits_records_with_their_offset,
 };
 pub use tick::Tick;
+pub use yields::what_is_yielded_is_the_feeds_yield;
