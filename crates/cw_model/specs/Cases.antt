@@ -1,5 +1,5 @@
 -- Small states and steps for worked cases: one connector `s`, one or two workers, and what they run.
-use Rattle.std.specs.Prelude.{◌++◌, ◌^◌, ◌-◌, Option, ℕ, List, [], ◌∷◌, map, Some, None, Result}
+use Rattle.std.specs.Prelude.{true, ◌++◌, ◌^◌, ◌-◌, Option, ℕ, List, [], ◌∷◌, map, Some, None, Result}
 use Rattle.std.specs.List.{fold, flat_map}
 use Rattle.cw_types.specs.declared.ids.Epoch.{Epoch}
 use Rattle.cw_types.specs.declared.ids.Item.{Item}
@@ -25,6 +25,11 @@ use Rattle.cw_plugin.specs.declared.class.Class.TheVariants.{SequenceSource, Fil
 use Rattle.cw_plugin.specs.declared.task.TaskSpec.{TaskSpec}
 use Rattle.cw_model.specs.declared.fault.WorldFault.{WorldFault}
 use Rattle.cw_model.specs.declared.row.Row.{Row}
+use Rattle.cw_model.specs.declared.row.RowPhase.TheVariants.{Stable}
+use Rattle.cw_bytes.specs.declared.applied.Applied.{Applied}
+use Rattle.cw_keys.specs.Parts.{part_text}
+use Rattle.cw_keys.specs.Offsets.{offset_text}
+use Rattle.cw_offset.specs.declared.body.OffsetEntry.TheVariants.{Records, Mark}
 use Rattle.cw_model.specs.declared.instance.Instance.{Instance}
 use Rattle.cw_model.specs.declared.instance.Cut.{Cut}
 use Rattle.cw_model.specs.declared.instance.InstancePhase.{InstancePhase}
@@ -271,3 +276,25 @@ with_frames frames = record empty_cluster { config = record { frames = frames; s
 -- the offsets of what stands in the config log
 abbrev pub offsets_in : Small → List (List ℕ)
 offsets_in s = map (λ frame. map (λ r. r.offset) frame) s.config.frames
+
+-- a second worker is told that it leads
+abbrev pub with_second_leader : Small → Small
+with_second_leader s = record s { rows = s.rows ++ record new_row { phase = Stable 2 1 } ∷ [] }
+
+-- the second transaction of the task `s`-0 under its first epoch
+abbrev pub second_tag : Tag
+second_tag = record (tag_s 1) { number = 1 }
+
+-- an offset record of the first part of `s`
+abbrev pub offset_at : (offset to : ℕ) → Applied
+offset_at offset to = record { offset = offset; stamp = 2; key = part_text (part_s 0); value = Some (offset_text (part_s 0) to) }
+
+-- the task has committed two transactions, and both are marked in the offset log
+abbrev pub twice_committed : Small
+twice_committed = record (with_list (Bump (tid_s 0) ∷ Commit (tag_s 1) 1 (span_s 0 2 ∷ []) ∷ Commit second_tag 1 (span_s 2 3 ∷ []) ∷ []) empty_cluster) {
+  offsets = record {
+    frames = Records (tag_s 1) (offset_at 0 2 ∷ []) ∷ Mark (record { tag = tag_s 1; committed = true }) ∷ Records second_tag (offset_at 1 3 ∷ []) ∷
+        Mark (record { tag = second_tag; committed = true }) ∷ [];
+    side = 1;
+  };
+}

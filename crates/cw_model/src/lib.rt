@@ -22,7 +22,8 @@ pub use alterations::{
     offsets_are_altered_once_stopped, offsets_are_reset,
 };
 pub use cases::{
-    late_task_is_stale, new_task_waits_for_its_fence, zombie_commits_no_more_once_fenced,
+    late_task_is_stale, new_task_goes_on_once_fenced, new_task_waits_for_its_fence,
+    old_leader_is_fenced_and_gives_up, zombie_commits_no_more_once_fenced,
 };
 pub use fault::WorldFault;
 pub use instance::{Cut, Instance, InstancePhase, Trace};
@@ -30,8 +31,8 @@ pub use rebalances::{lost_task_waits_through_the_delay, rebalance_revokes_before
 pub use row::{Fencing, Row, RowPhase};
 pub use steps::{
     committed_records_are_stable_once_marked, config_log_keeps_the_last_of_each_key,
-    script_producer_is_judged_by_its_epoch, sink_stores_how_far_it_came,
-    task_commits_records_with_their_offset,
+    offset_log_keeps_the_last_committed_of_each_part, script_producer_is_judged_by_its_epoch,
+    sink_stores_how_far_it_came, task_commits_records_with_their_offset,
 };
 pub use tick::Tick;
 pub use yields::what_is_yielded_is_the_feeds_yield;

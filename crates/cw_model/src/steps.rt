@@ -1,5 +1,5 @@
 //! Worked cases of the steps of tasks and of a script's producers: each event is computed, down to the bytes of its frame.
-ghost use Rattle.std.specs.Prelude.{◌≡◌, ◌∷◌, [], ℕ, Some, None, Ok, true, codes};
+ghost use Rattle.std.specs.Prelude.{◌≡◌, ◌∷◌, [], ℕ, Some, None, Ok, true, codes, drop};
 ghost use Rattle.cw_types.specs.declared.ids.PartKey.TheVariants.{Raw};
 ghost use Rattle.cw_types.specs.declared.ids.Span.{Span};
 ghost use Rattle.cw_types.specs.declared.logs.LogName.TheVariants.{Config, Offsets, Batches};
@@ -14,7 +14,7 @@ ghost use Rattle.cw_model.specs.EventsSinks.{deliver, put_sink, MayDeliver};
 ghost use Rattle.cw_model.specs.EventsMarking.{mark};
 ghost use Rattle.cw_model.specs.EventsCompaction.{compact};
 ghost use Rattle.cw_model.specs.EventsRaw.{raw_init, raw_commit};
-ghost use Rattle.cw_model.specs.Cases.{behind, answer_of, played, empty_cluster, small_setting, name_s, part_s, span_s, tag_s, epoch, polling, cut_to, produced, offered, committed, sinking, sink_part, two_task_sets, task_config_s, with_frames, offsets_in};
+ghost use Rattle.cw_model.specs.Cases.{behind, answer_of, played, empty_cluster, small_setting, name_s, part_s, span_s, tag_s, epoch, polling, cut_to, produced, offered, committed, sinking, sink_part, two_task_sets, task_config_s, with_frames, offsets_in, twice_committed};
 
 /// A source's task writes records and their offset, and commits both at once (KIP-618).
 pub fn task_commits_records_with_their_offset()
@@ -52,4 +52,10 @@ pub fn config_log_keeps_the_last_of_each_key()
     ensures counts { answer_of (compact Config) (with_frames two_task_sets) ≡ Ok (10, 6) }
     ensures stays { offsets_in (behind (compact Config) (with_frames two_task_sets)) ≡ (2 ∷ 3 ∷ []) ∷ (6 ∷ []) ∷ (7 ∷ []) ∷ (8 ∷ []) ∷ (9 ∷ []) ∷ [] }
     ensures waiting { answer_of (compact Config) (with_frames ((task_config_s 0 0 ∷ []) ∷ (task_config_s 1 0 ∷ []) ∷ [])) ≡ Ok (2, 2) }
+{}
+
+/// An offset goes once a later one of its part is committed and marked, and its marker goes with it.
+pub fn offset_log_keeps_the_last_committed_of_each_part()
+    ensures counts { answer_of (compact Offsets) twice_committed ≡ Ok (2, 1) }
+    ensures stays { (behind (compact Offsets) twice_committed).offsets.frames ≡ drop 2 twice_committed.offsets.frames }
 {}
