@@ -12,6 +12,7 @@ mod cases;
 mod fault;
 mod instance;
 mod rebalances;
+mod reports;
 mod row;
 mod steps;
 mod tick;
@@ -28,11 +29,13 @@ pub use cases::{
 pub use fault::WorldFault;
 pub use instance::{Cut, Instance, InstancePhase, Trace};
 pub use rebalances::{lost_task_waits_through_the_delay, rebalance_revokes_before_it_gives};
+pub use reports::{failed_task_is_reported_with_its_trace, restart_reaches_workers_that_hear};
 pub use row::{Fencing, Row, RowPhase};
 pub use steps::{
     committed_records_are_stable_once_marked, config_log_keeps_the_last_of_each_key,
-    offset_log_keeps_the_last_committed_of_each_part, script_producer_is_judged_by_its_epoch,
-    sink_stores_how_far_it_came, task_commits_records_with_their_offset,
+    cut_ends_behind_a_line, offset_log_keeps_the_last_committed_of_each_part,
+    script_producer_is_judged_by_its_epoch, sink_stores_how_far_it_came,
+    task_commits_records_with_their_offset,
 };
 pub use tick::Tick;
 pub use yields::what_is_yielded_is_the_feeds_yield;

@@ -9,7 +9,8 @@ use cw_feed::yields_are_one;
 
 /// Where a part yields something between two positions, that is what a task writes for them.
 pub fn what_is_yielded_is_the_feeds_yield()
-    ensures { (feeds : Files) (part : PartKey) (from to : ℕ) → HasYield feeds part from to → Yield feeds part from to (yielded feeds part from to) }
+    ensures { (feeds : Files) (part : PartKey) (from to : ℕ) →
+        HasYield feeds part from to → Yield feeds part from to (yielded feeds part from to) }
 {
     yields_are_one()
 }
