@@ -15,4 +15,5 @@ pub mod EventsReports
 pub mod EventsMarking
 pub mod EventsCompaction
 pub mod EventsRaw
+pub mod Refusals
 pub mod Cases

@@ -12,6 +12,7 @@ mod cases;
 mod fault;
 mod instance;
 mod rebalances;
+mod refusals;
 mod reports;
 mod row;
 mod steps;
@@ -29,6 +30,10 @@ pub use cases::{
 pub use fault::WorldFault;
 pub use instance::{Cut, Instance, InstancePhase, Trace};
 pub use rebalances::{lost_task_waits_through_the_delay, rebalance_revokes_before_it_gives};
+pub use refusals::{
+    closed_cluster_takes_no_event, ended_instance_takes_no_event, killed_worker_takes_no_event,
+    refused_event_changes_nothing,
+};
 pub use reports::{failed_task_is_reported_with_its_trace, restart_reaches_workers_that_hear};
 pub use row::{Fencing, Row, RowPhase};
 pub use steps::{
