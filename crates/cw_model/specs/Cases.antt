@@ -1,11 +1,12 @@
 -- Small states and steps for worked cases: one connector `s`, one or two workers, and what they run.
-use Rattle.std.specs.Prelude.{◌++◌, ◌^◌, ◌-◌, Option, ℕ, List, [], ◌∷◌, map, Some, None, Result}
+use Rattle.std.specs.Prelude.{codes, true, ◌++◌, ◌^◌, ◌-◌, Option, ℕ, List, [], ◌∷◌, map, Some, None, Result}
 use Rattle.std.specs.List.{fold, flat_map}
 use Rattle.cw_types.specs.declared.ids.Epoch.{Epoch}
 use Rattle.cw_types.specs.declared.ids.Item.{Item}
 use Rattle.cw_types.specs.declared.ids.Item.TheVariants.{Connector, Task}
 use Rattle.cw_types.specs.declared.ids.PartKey.{PartKey}
-use Rattle.cw_types.specs.declared.ids.PartKey.TheVariants.{Seq, Sink}
+use Rattle.cw_types.specs.declared.ids.PartKey.TheVariants.{File, Seq, Sink}
+use Rattle.cw_io.specs.Shelf.{Files}
 use Rattle.cw_types.specs.declared.ids.Tid.{Tid}
 use Rattle.cw_types.specs.declared.ids.Tid.TheVariants.{Lead, Task as TaskTid}
 use Rattle.cw_keys.specs.declared.config_key.ConfigKey.{ConfigKey}
@@ -21,16 +22,26 @@ use Rattle.cw_types.specs.declared.ids.Span.{Span}
 use Rattle.cw_keys.specs.declared.target.Target.TheVariants.{Stopped}
 use Rattle.cw_assign.specs.declared.delay.Delay.TheVariants.{Idle}
 use Rattle.cw_group.specs.Group.{empty_group}
-use Rattle.cw_plugin.specs.declared.class.Class.TheVariants.{SequenceSource, FileStreamSink}
+use Rattle.cw_plugin.specs.declared.class.Class.TheVariants.{FileStreamSource, SequenceSource, FileStreamSink}
 use Rattle.cw_plugin.specs.declared.task.TaskSpec.{TaskSpec}
 use Rattle.cw_model.specs.declared.fault.WorldFault.{WorldFault}
 use Rattle.cw_model.specs.declared.row.Row.{Row}
+use Rattle.cw_model.specs.declared.row.RowPhase.TheVariants.{Stable}
+use Rattle.cw_bytes.specs.declared.applied.Applied.{Applied}
+use Rattle.cw_keys.specs.Parts.{part_text}
+use Rattle.cw_keys.specs.Offsets.{offset_text}
+use Rattle.cw_offset.specs.declared.body.OffsetEntry.TheVariants.{Records, Mark}
 use Rattle.cw_model.specs.declared.instance.Instance.{Instance}
 use Rattle.cw_model.specs.declared.instance.Cut.{Cut}
 use Rattle.cw_model.specs.declared.instance.InstancePhase.{InstancePhase}
-use Rattle.cw_model.specs.declared.instance.InstancePhase.TheVariants.{Polling}
+use Rattle.cw_model.specs.declared.instance.InstancePhase.TheVariants.{Polling, Inited}
 use Rattle.cw_types.specs.declared.logs.LogName.TheVariants.{Batches}
 use Rattle.cw_model.specs.EventsSources.{produce, put_offsets, commit}
+use Rattle.cw_model.specs.EventsSinks.{deliver, put_sink}
+use Rattle.cw_status.specs.declared.record.StatusRecord.{StatusRecord}
+use Rattle.cw_model.specs.declared.instance.Trace.TheVariants.{Fenced}
+use Rattle.cw_model.specs.EventsReports.{fail, put_status}
+use Rattle.cw_model.specs.EventsRaw.{raw_init, raw_commit}
 use Rattle.cw_model.specs.EventsMarking.{mark}
 use Rattle.cw_model.specs.State.{Setting, Cluster}
 use Rattle.cw_model.specs.Lookups.{new_row}
@@ -38,7 +49,7 @@ use Rattle.cw_model.specs.Answers.{Answer}
 use Rattle.cw_model.specs.EventsWorkers.{spawn, kill, expire}
 use Rattle.cw_model.specs.EventsGroups.{join, close_round, store_plan, sync}
 use Rattle.cw_model.specs.EventsItems.{read_config, start_item, stop_item}
-use Rattle.cw_model.specs.EventsLeading.{append_config}
+use Rattle.cw_model.specs.EventsLeading.{claim_lead, append_config, fence_one, append_fence, set_offsets}
 
 -- a cluster whose journal has numbers for its calls
 abbrev pub Small : Type 0
@@ -81,29 +92,35 @@ answer_of event s = (event s).0
 abbrev pub played : List (Small → Small) → Small → Small
 played steps s = fold (λ state step. step state) s steps
 
--- the connector `s`, its tasks and their producers and parts
+-- the name of the connector
 abbrev pub name_s : List ℕ
 name_s = 115 ∷ []
 
+-- the connector as an item
 abbrev pub connector_s : Item
 connector_s = Connector name_s
 
+-- its tasks
 abbrev pub task_s : ℕ → Item
 task_s index = Task (record { connector = name_s; index = index })
 
+-- their producers
 abbrev pub tid_s : ℕ → Tid
 tid_s index = TaskTid (record { connector = name_s; index = index })
 
+-- its parts, each a sequence
 abbrev pub part_s : ℕ → PartKey
 part_s index = Seq name_s index
 
+-- an epoch of this number
 abbrev pub epoch : ℕ → Epoch
 epoch n = record { 0 = n }
 
--- the first transaction of its first task under some epoch, and a span of its part
+-- the first transaction of its first task under some epoch
 abbrev pub tag_s : ℕ → Tag
 tag_s n = record { number = 0; epoch = epoch n; tid = tid_s 0 }
 
+-- a span of its first part
 abbrev pub span_s : (from to : ℕ) → Span
 span_s from to = record { part = part_s 0; from = from; to = to }
 
@@ -111,13 +128,15 @@ span_s from to = record { part = part_s 0; from = from; to = to }
 abbrev pub written : ℕ → ConfigKey → ConfigValue → ConfigRecord
 written offset record_key record_value = record { offset = offset; stamp = 0; key = record_key; value = Some record_value }
 
--- the config of `s`, a commit of so many of its tasks, and the fence of the older ones
+-- the config of `s`
 abbrev pub configured_s : ℕ → ConfigRecord
 configured_s offset = written offset (key.Connector name_s) (value.Connector [])
 
+-- a commit of so many of its tasks
 abbrev pub committed_s : ℕ → ℕ → ConfigRecord
 committed_s offset count = written offset (key.Commit name_s) (value.Commit count)
 
+-- the record that older tasks are fenced, before so many
 abbrev pub fenced_s : ℕ → ℕ → ConfigRecord
 fenced_s offset count = written offset (key.Fencing name_s) (value.Fencing count)
 
@@ -194,9 +213,13 @@ at_two_workers = played (behind (stop_item 2) ∷ round_of_two ++ behind (start_
 abbrev pub lost_one : Small
 lost_one = played (behind (kill 1) ∷ behind (expire small_setting 1) ∷ []) at_two_workers
 
--- the same at another moment
-abbrev pub at_moment : ℕ → Small → Small
-at_moment moment s = record s { moment = moment }
+-- then there is a round while the delay runs
+abbrev pub waiting_out : Small
+waiting_out = played round_of_one lost_one
+
+-- and another one once it has run out
+abbrev pub given_back : Small
+given_back = played round_of_one (record waiting_out { moment = 300 })
 
 -- `s` has one task, which has committed its first two records; worker 0 leads
 abbrev pub producing : Small
@@ -207,12 +230,17 @@ producing = record (with_list (Bump Lead ∷ Bump (tid_s 0) ∷ Commit (tag_s 1)
 abbrev pub stopping : List (ConfigKey × Option ConfigValue)
 stopping = (key.Commit name_s, Some (value.Commit 0)) ∷ (key.Target name_s, Some (value.Target Stopped)) ∷ []
 
+-- the same once it is stopped
 abbrev pub stopped : Small
 stopped = behind (append_config 0 stopping) producing
 
 -- the offset of the first part of `s` is set
 abbrev pub offset_set : Option ℕ → List SetOffset
 offset_set to = record { part = part_s 0; to = to } ∷ []
+
+-- then the offset of its first part is set
+abbrev pub altered_to : Option ℕ → Small
+altered_to to = behind (set_offsets 0 name_s (offset_set to)) stopped
 
 -- the last record of the config log has the greatest offset that there is
 abbrev pub out_of_offsets : Small
@@ -226,24 +254,27 @@ polling = record (with_list (Bump Lead ∷ Bump (tid_s 0) ∷ [])
       instances = record (instance_s Polling 1) { last = None; cut = None } ∷ [];
     }
 
--- the task's first records, and more than there are
+-- a cut of the task's sequence from its beginning
 abbrev pub cut_to : ℕ → Cut
 cut_to to = record { turn = 0; from = 0; to = to }
 
--- the task has produced its first two records, then offered their offset, then committed both
+-- the task has produced its first two records
 abbrev pub produced : Small
 produced = behind (produce small_setting 0 (cut_to 2)) polling
 
+-- then it has written their offset
 abbrev pub offered : Small
 offered = behind (put_offsets 0) produced
 
+-- then it has committed both
 abbrev pub committed : Small
 committed = behind (commit 0) offered
 
--- a connector `k` reads the topic `s` as a sink; its task polls as instance 1, and worker 0 has marked what the source committed
+-- the topic `s` as a part of a sink `k`
 abbrev pub sink_part : PartKey
 sink_part = Sink (107 ∷ []) name_s
 
+-- the task of that sink, which polls
 abbrev pub sink_task : Instance
 sink_task = record (instance_s Polling 1) {
   item = Task (record { connector = 107 ∷ []; index = 0 });
@@ -251,6 +282,7 @@ sink_task = record (instance_s Polling 1) {
   task = Some (record (spec_s 0) { class = FileStreamSink; parts = sink_part ∷ []; topic = None; file = Some name_s });
 }
 
+-- worker 0 has marked what the source committed, and the sink's task polls as instance 1
 abbrev pub sinking : Small
 sinking = record (behind (mark Batches) committed) { instances = committed.instances ++ sink_task ∷ [] }
 
@@ -271,3 +303,69 @@ with_frames frames = record empty_cluster { config = record { frames = frames; s
 -- the offsets of what stands in the config log
 abbrev pub offsets_in : Small → List (List ℕ)
 offsets_in s = map (λ frame. map (λ r. r.offset) frame) s.config.frames
+
+-- a second worker is told that it leads
+abbrev pub with_second_leader : Small → Small
+with_second_leader s = record s { rows = s.rows ++ record new_row { phase = Stable 2 1 } ∷ [] }
+
+-- the second transaction of the task `s`-0 under its first epoch
+abbrev pub second_tag : Tag
+second_tag = record (tag_s 1) { number = 1 }
+
+-- an offset record of the first part of `s`
+abbrev pub offset_at : (offset to : ℕ) → Applied
+offset_at offset to = record { offset = offset; stamp = 2; key = part_text (part_s 0); value = Some (offset_text (part_s 0) to) }
+
+-- the task has committed two transactions, and both are marked in the offset log
+abbrev pub twice_committed : Small
+twice_committed = record (with_list (Bump (tid_s 0) ∷ Commit (tag_s 1) 1 (span_s 0 2 ∷ []) ∷ Commit second_tag 1 (span_s 2 3 ∷ []) ∷ []) empty_cluster) {
+  offsets = record {
+    frames = Records (tag_s 1) (offset_at 0 2 ∷ []) ∷ Mark (record { tag = tag_s 1; committed = true }) ∷ Records second_tag (offset_at 1 3 ∷ []) ∷
+        Mark (record { tag = second_tag; committed = true }) ∷ [];
+    side = 1;
+  };
+}
+
+-- then that worker claims the lead
+abbrev pub led_by_another : Small
+led_by_another = behind (claim_lead 1) (with_second_leader polling)
+
+-- the leader has fenced the older tasks of `s`, whose new task has its epoch
+abbrev pub nearly_fenced : Small
+nearly_fenced = behind (fence_one 0 name_s) (unfenced Inited 3)
+
+-- and has written that they are fenced
+abbrev pub wholly_fenced : Small
+wholly_fenced = behind (append_fence 0 name_s) nearly_fenced
+
+-- the sink has handed out two records, and has stored that
+abbrev pub sunk : Small
+sunk = played (behind (deliver 1 0 2) ∷ behind (put_sink 1 2) ∷ []) sinking
+
+-- a script's producer has its first epoch
+abbrev pub script_begun : Small
+script_begun = behind (raw_init 0) empty_cluster
+
+-- and then its second
+abbrev pub script_begun_again : Small
+script_begun_again = behind (raw_init 0) script_begun
+
+-- a script's producer commits part 0 up to 5 under an epoch
+abbrev pub commit_five : ℕ → Small → Answer ℕ (List Span)
+commit_five n s = raw_commit 0 (epoch n) ((0, 5) ∷ []) s
+
+-- a feed `f`, whose last line has no end
+abbrev pub feed_f : Files
+feed_f = (102 ∷ [], codes "one" ++ 10 ∷ codes "two") ∷ []
+
+-- a task that reads that feed from its beginning
+abbrev pub file_task : Instance
+file_task = record (instance_s Polling 1) { task = Some (record (spec_s 0) { class = FileStreamSource; parts = File name_s (102 ∷ []) ∷ [] }) }
+
+-- the records of the status log
+abbrev pub statuses_in : Small → List StatusRecord
+statuses_in s = map (λ r. r.status) s.statuses
+
+-- the task `s`-0 is reported, fails as fenced, and is reported again
+abbrev pub failed_then_reported : Small
+failed_then_reported = played (behind (put_status 0 (task_s 0)) ∷ behind (fail 0 (Fenced 1 2)) ∷ behind (put_status 0 (task_s 0)) ∷ []) polling

@@ -148,14 +148,17 @@ on_other_side frames old = record { frames = frames; side = old.side + 1 }
 abbrev pub unless_worn : {J A : Type 0} → LogName → (size side : ℕ) → Answer J A → Cluster J → Answer J A
 unless_worn log size side done s = if nat_lt side (2 ^ 64 - 1) then done else refused (Full log size 0) s
 
+-- the config log gets these frames: the answer is how many records it had, and has
 abbrev pub compacts_configs : {J : Type 0} → List (List ConfigRecord) → Cluster J → Answer J (ℕ × ℕ)
 compacts_configs frames s = unless_worn Config (config_length s) s.config.side
     (answered (length (in_frames s.config.frames), length (in_frames frames)) (record s { config = on_other_side frames s.config })) s
 
+-- the offset log gets these entries; markers aren't counted
 abbrev pub compacts_offsets : {J : Type 0} → List OffsetEntry → Cluster J → Answer J (ℕ × ℕ)
 compacts_offsets frames s = unless_worn Offsets (offsets_length s) s.offsets.side
     (answered (length (flat_map records_in s.offsets.frames), length (flat_map records_in frames)) (record s { offsets = on_other_side frames s.offsets })) s
 
+-- the status log gets these frames
 abbrev pub compacts_statuses : {J : Type 0} → List (List StampedStatus) → Cluster J → Answer J (ℕ × ℕ)
 compacts_statuses frames s = unless_worn Status (status_length s) s.status.side
     (answered (length (in_frames s.status.frames), length (in_frames frames)) (record s { status = on_other_side frames s.status })) s

@@ -38,10 +38,11 @@ pub record MayDeliver {J : Type 0} (i turn to : ℕ) (s : Cluster J) : Type 0 wh
   pub some : position_at turn (instance_of i s) < to
   pub settled : to ≤ stable (topic_in (part_at turn (instance_of i s))) s.batches
 
--- a sink stores how far it handed out a topic
+-- the entry that sets the offset of the topic that a sink took last
 abbrev pub sink_offset : Instance → ℕ → Entry
 sink_offset i to = Set (tag_of i).tid (tag_of i).epoch (record { part = part_at (cut_of i).turn i; to = Some to } ∷ [])
 
+-- a sink stores how far it handed out a topic, under its own epoch
 abbrev pub put_sink : {J : Type 0} → ℕ → (to : ℕ) → Cluster J → Answer J (Unit {0})
 put_sink i to = at_instance i (λ s. as_producer i
     (appends_entries (sink_offset (instance_of i s) to ∷ []) (changes_instance i (polling_from phase.Polling to)) tt s) s)

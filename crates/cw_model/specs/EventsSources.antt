@@ -41,6 +41,10 @@ abbrev pub init : {J : Type 0} → ℕ → Cluster J → Answer J Epoch
 init i = at_instance i (λ s. let tid = tid_of (instance_of i s).item in
     bumps tid (changes_instance i (with_epoch (next_epoch tid s))) (next_epoch tid s) s)
 
+-- it is new
+abbrev pub MayInit : {J : Type 0} → ℕ → Cluster J → Type 0
+MayInit i s = IsIn phase.New i s
+
 -- whether a task isn't one of its connector's newest set, at the config log's end
 abbrev pub is_stale : {J : Type 0} → Instance → Cluster J → Bool
 is_stale i s = let id = task_id_of i.item in
@@ -53,6 +57,10 @@ verify i = at_instance i (λ s. let own = instance_of i s in let name = (task_id
     if is_pending name s.configs then refused PendingFence s else
     answered own.generation (changes_instance i (in_phase phase.Verified) s))
 
+-- it has its epoch
+abbrev pub MayVerify : {J : Type 0} → ℕ → Cluster J → Type 0
+MayVerify i s = IsIn phase.Inited i s
+
 -- a task at these positions, whose next transaction is its first
 abbrev pub at_positions : List ℕ → Instance → Instance
 at_positions positions i = record i { phase = phase.Polling; number = 0; positions = positions }
@@ -61,6 +69,10 @@ at_positions positions i = record i { phase = phase.Polling; number = 0; positio
 abbrev pub fetch : {J : Type 0} → ℕ → Cluster J → Answer J (Unit {0})
 fetch i = at_instance i (λ s. answered tt (changes_instance i
     (at_positions (map (λ part. unwrap_or (end_of part s.entries) 0) (parts_of (instance_of i s)))) s))
+
+-- its set is the newest, and all older ones are fenced
+abbrev pub MayFetch : {J : Type 0} → ℕ → Cluster J → Type 0
+MayFetch i s = IsIn phase.Verified i s
 
 -- whether a part may not be cut there: its feed is shorter or has no line end there, or its sequence is shorter
 abbrev pub ends_badly : Files → PartKey → (count to : ℕ) → Bool
@@ -108,6 +120,10 @@ abbrev pub put_offsets : {J : Type 0} → ℕ → Cluster J → Answer J (Unit {
 put_offsets i = at_instance i (λ s. let own = instance_of i s in as_producer i
     (appends_offset (Records (tag_of own) (offset_record (span_of own) s ∷ [])) (changes_instance i (in_phase phase.Offered)) tt s) s)
 
+-- its records stand in the data log
+abbrev pub MayPutOffsets : {J : Type 0} → ℕ → Cluster J → Type 0
+MayPutOffsets i s = IsIn phase.Produced i s
+
 -- a task whose transaction is committed goes on behind it, with the next one
 abbrev pub committed_to : ℕ → Instance → Instance
 committed_to position i = record (polling_from phase.Polling position i) { number = next i.number }
@@ -116,3 +132,7 @@ committed_to position i = record (polling_from phase.Polling position i) { numbe
 abbrev pub commit : {J : Type 0} → ℕ → Cluster J → Answer J Span
 commit i = at_instance i (λ s. let own = instance_of i s in as_producer i
     (appends_entries (Commit (tag_of own) own.generation (span_of own ∷ []) ∷ []) (changes_instance i (committed_to (cut_of own).to)) (span_of own) s) s)
+
+-- its records and their offset stand in their logs
+abbrev pub MayCommit : {J : Type 0} → ℕ → Cluster J → Type 0
+MayCommit i s = IsIn phase.Offered i s

@@ -21,6 +21,7 @@ pub mod EventsReports
 pub mod EventsMarking
 pub mod EventsCompaction
 pub mod EventsRaw
+pub mod Refusals
 pub mod Ready
 pub mod Proposals
 pub mod Tick

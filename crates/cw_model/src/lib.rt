@@ -12,23 +12,35 @@ mod cases;
 mod fault;
 mod instance;
 mod rebalances;
+mod refusals;
+mod reports;
 mod row;
 mod steps;
 mod tick;
+mod yields;
 
 pub use alterations::{
-    config_log_without_offsets_is_full, offsets_are_altered_once_stopped, offsets_are_reset,
+    config_log_without_offsets_is_full, config_log_without_room_is_full,
+    offsets_are_altered_once_stopped, offsets_are_reset,
 };
 pub use cases::{
-    late_task_is_stale, new_task_waits_for_its_fence, zombie_commits_no_more_once_fenced,
+    late_task_is_stale, new_task_goes_on_once_fenced, new_task_waits_for_its_fence,
+    old_leader_is_fenced_and_gives_up, zombie_commits_no_more_once_fenced,
 };
 pub use fault::WorldFault;
 pub use instance::{Cut, Instance, InstancePhase, Trace};
 pub use rebalances::{lost_task_waits_through_the_delay, rebalance_revokes_before_it_gives};
+pub use refusals::{
+    closed_cluster_takes_no_event, ended_instance_takes_no_event, killed_worker_takes_no_event,
+    refused_event_changes_nothing,
+};
+pub use reports::{failed_task_is_reported_with_its_trace, restart_reaches_workers_that_hear};
 pub use row::{Fencing, Row, RowPhase};
 pub use steps::{
     committed_records_are_stable_once_marked, config_log_keeps_the_last_of_each_key,
+    cut_ends_behind_a_line, offset_log_keeps_the_last_committed_of_each_part,
     script_producer_is_judged_by_its_epoch, sink_stores_how_far_it_came,
     task_commits_records_with_their_offset,
 };
 pub use tick::Tick;
+pub use yields::what_is_yielded_is_the_feeds_yield;

@@ -1,7 +1,7 @@
 //! Worked cases of rebalances: each begins with no worker, and every event is computed (KIP-415).
 ghost use Rattle.std.specs.Prelude.{◌≡◌, ◌∷◌, []};
 ghost use Rattle.cw_model.specs.Lookups.{row_of};
-ghost use Rattle.cw_model.specs.Cases.{played, connector_s, task_s, round_of_one, at_one_worker, revoked_from_one, at_two_workers, lost_one, at_moment};
+ghost use Rattle.cw_model.specs.Cases.{connector_s, task_s, at_one_worker, revoked_from_one, at_two_workers, lost_one, waiting_out, given_back};
 ghost use Rattle.cw_assign.specs.declared.delay.Delay.TheVariants.{Idle, Until};
 
 /// A second worker comes: the first round takes a task from the first worker and gives it to nobody, and only the
@@ -18,7 +18,7 @@ pub fn rebalance_revokes_before_it_gives()
 pub fn lost_task_waits_through_the_delay()
     ensures lost { lost_one.lost ≡ task_s 1 ∷ [] }
     ensures delay { lost_one.delay ≡ Until 300 }
-    ensures waits { (row_of 0 (played round_of_one lost_one)).assigned ≡ connector_s ∷ task_s 0 ∷ [] }
-    ensures given { (row_of 0 (played round_of_one (at_moment 300 (played round_of_one lost_one)))).assigned ≡ connector_s ∷ task_s 0 ∷ task_s 1 ∷ [] }
-    ensures over { (played round_of_one (at_moment 300 (played round_of_one lost_one))).delay ≡ Idle }
+    ensures waits { (row_of 0 waiting_out).assigned ≡ connector_s ∷ task_s 0 ∷ [] }
+    ensures given { (row_of 0 given_back).assigned ≡ connector_s ∷ task_s 0 ∷ task_s 1 ∷ [] }
+    ensures over { given_back.delay ≡ Idle }
 {}
