@@ -1,7 +1,7 @@
 -- The facts of a state that keep it safe whatever happens next: what the group and the workers' rows have in common (KIP-415), and what a producer that
 -- isn't fenced is like (KIP-618, KIP-98). They are this project's own.
-use Rattle.std.specs.Prelude.{◌≡◌, ◌≢◌, ℕ, ◌<◌, ◌≤◌, ◌+◌, Bool, true, false, List, [], ◌∷◌, ◌++◌, length, map, Option, Some, None, slice_get}
-use Rattle.std.specs.Option.{option_map_or}
+use Rattle.std.specs.Prelude.{◌≡◌, ◌≢◌, ℕ, ◌<◌, ◌≤◌, ◌+◌, Bool, true, false, List, [], ◌∷◌, ◌++◌, length, map, Option, Some, None, slice_get, ◌||◌, IsSome}
+use Rattle.std.specs.Option.{IsSomeAnd, option_map_or}
 use Rattle.std.specs.List.{filter, flat_map, filter_map, zip, AllByRecursion, IsDistinct}
 use Rattle.cw_types.specs.declared.ids.Item.{Item}
 use Rattle.cw_types.specs.declared.ids.Item.TheVariants.{Task}
@@ -11,7 +11,7 @@ use Rattle.cw_types.specs.declared.ids.Tag.{Tag}
 use Rattle.cw_assign.specs.declared.delay.Delay.TheVariants.{Idle}
 use Rattle.cw_assign.specs.declared.share.Share.{Share}
 use Rattle.cw_assign.specs.Items.{has, same_item}
-use Rattle.cw_group.specs.declared.answers.Phase.TheVariants.{Planned}
+use Rattle.cw_group.specs.declared.answers.Phase.TheVariants.{Closed, Planned}
 use Rattle.cw_group.specs.declared.member.Member.{Member}
 use Rattle.cw_group.specs.Members.{member_of, lowest_in, AreRising, AreApart}
 use Rattle.cw_group.specs.Group.{synced}
@@ -23,7 +23,7 @@ use Rattle.cw_data.specs.declared.entry.Batch.{Batch}
 use Rattle.cw_feed.specs.Yield.{Yield}
 use Rattle.cw_io.specs.Shelf.{Files}
 use Rattle.cw_plugin.specs.Tasks.{parts_at, ShareNone}
-use Rattle.cw_model.specs.declared.row.RowPhase.TheVariants.{Stable}
+use Rattle.cw_model.specs.declared.row.RowPhase.TheVariants.{Joining, Stable}
 use Rattle.cw_model.specs.declared.row.Fencing.{Fencing}
 use Rattle.cw_model.specs.declared.instance.Cut.{Cut}
 use Rattle.cw_model.specs.declared.instance.Instance.{Instance}
@@ -218,35 +218,73 @@ pub record ProducerFacts {J : Type 0} (setting : Setting) (s : Cluster J) : Type
   pub counted : (n : ℕ) (id : TaskId) → IsUnfenced s n id → id.index < fenced_count_of id.connector s.configs
   -- its positions are the ends of its parts: what it commits next goes on from there
   pub positions : (n : ℕ) (id : TaskId) → IsUnfenced s n id → is_fetched (instance_of n s).phase ≡ true →
-    (instance_of n s).positions ≡ map (λ part. end_or_start part s.entries) (parts_of (instance_of n s))
+      (instance_of n s).positions ≡ map (λ part. end_or_start part s.entries) (parts_of (instance_of n s))
   -- no other one reads its parts, so that its positions stay the ends
   pub apart : (m n : ℕ) (a b : TaskId) → m ≢ n → IsUnfenced s m a → IsUnfenced s n b → a.connector ≡ b.connector →
-    ShareNone (parts_of (instance_of m s)) (parts_of (instance_of n s))
+      ShareNone (parts_of (instance_of m s)) (parts_of (instance_of n s))
   -- an instance of the newest generation has the parts of its task's config; the tasks of one generation have no part in common
   pub parts : (n : ℕ) (id : TaskId) → IsNewest s n id →
-    option_map_or (parts_at id.connector) (task_of id s.configs) [] ≡ parts_of (instance_of n s)
+      option_map_or (parts_at id.connector) (task_of id s.configs) [] ≡ parts_of (instance_of n s)
   -- while its transaction is open, its one batch is what it will commit
   pub one_batch : (n : ℕ) (id : TaskId) (epoch : ℕ) → IsUnfenced s n id → Writes s n id epoch → is_open (instance_of n s).phase ≡ true →
-    HasItsBatch setting.feeds (batches_of s.batches) (tag_in_hand id epoch (instance_of n s)) (instance_of n s)
+      HasItsBatch setting.feeds (batches_of s.batches) (tag_in_hand id epoch (instance_of n s)) (instance_of n s)
   -- an older producer that isn't fenced yet has its turn still to come: when the fence is written, there is none
   pub fencing : (w n : ℕ) (fencing : Fencing) (id : TaskId) → IsFencing s w fencing → IsUnfenced s n id → id.connector ≡ fencing.connector →
-    (instance_of n s).generation < fencing.generation → IsToBeFenced fencing id.index
+      (instance_of n s).generation < fencing.generation → IsToBeFenced fencing id.index
   -- an instance of the newest generation isn't ahead of what is committed: one that is at its end leaves nothing behind it
   pub not_ahead : (n : ℕ) (id : TaskId) → IsNewest s n id →
-    AllByRecursion (λ p. p.1 ≤ end_or_start p.0 s.entries) (zip (parts_of (instance_of n s)) (instance_of n s).positions)
+      AllByRecursion (λ p. p.1 ≤ end_or_start p.0 s.entries) (zip (parts_of (instance_of n s)) (instance_of n s).positions)
   -- no two instances have one id and one epoch: a bump fences all but one
   pub apart_epochs : (m n : ℕ) (id : TaskId) (epoch : ℕ) → m ≢ n → Writes s m id epoch → Writes s n id epoch → ⊥
   -- no instance is ahead of its id's last epoch, so that the next one is new
   pub known_epochs : (n : ℕ) (id : TaskId) (epoch : ℕ) → Writes s n id epoch → epoch ≤ last_epoch (producer.Task id) s
   -- nothing was written under the epoch of an instance that is still starting
   pub unused : (n : ℕ) (id : TaskId) (epoch : ℕ) → Writes s n id epoch → is_starting (instance_of n s).phase ≡ true →
-    AllByRecursion (IsBelow id epoch 0) (batch_tags s ++ commit_tags s)
+      AllByRecursion (IsBelow id epoch 0) (batch_tags s ++ commit_tags s)
   -- the number of its next transaction is new to one that polls, so that no batch and no commit has its tag
   pub unused_number : (n : ℕ) (id : TaskId) (epoch : ℕ) → Writes s n id epoch → (instance_of n s).phase ≡ phase.Polling →
-    AllByRecursion (IsBelow id epoch (instance_of n s).number) (batch_tags s ++ commit_tags s)
+      AllByRecursion (IsBelow id epoch (instance_of n s).number) (batch_tags s ++ commit_tags s)
   -- while its transaction is open, that isn't committed
   pub uncommitted : (n : ℕ) (id : TaskId) (epoch : ℕ) → Writes s n id epoch → is_open (instance_of n s).phase ≡ true →
-    AllByRecursion (IsBelow id epoch (instance_of n s).number) (commit_tags s)
+      AllByRecursion (IsBelow id epoch (instance_of n s).number) (commit_tags s)
   -- nor has a later one a batch
   pub no_later_batch : (n : ℕ) (id : TaskId) (epoch : ℕ) → Writes s n id epoch → is_open (instance_of n s).phase ≡ true →
-    AllByRecursion (IsBelow id epoch ((instance_of n s).number + 1)) (batch_tags s)
+      AllByRecursion (IsBelow id epoch ((instance_of n s).number + 1)) (batch_tags s)
+
+-- ---- rows and instances
+
+-- whether an instance has its epoch
+abbrev pub has_epoch : InstancePhase → Bool
+has_epoch p = is_starting p || is_verified p
+
+-- whether it took something that isn't settled yet: a batch that isn't committed, or records whose offset isn't stored
+abbrev pub has_cut : InstancePhase → Bool
+has_cut phase.Connector = false
+has_cut phase.New = false
+has_cut phase.Inited = false
+has_cut phase.Verified = false
+has_cut phase.Polling = false
+has_cut phase.Produced = true
+has_cut phase.Offered = true
+has_cut phase.Delivered = true
+has_cut phase.Failed = false
+has_cut phase.Ended = false
+
+-- what an instance has in its phase
+pub record IsShaped {J : Type 0} (s : Cluster J) (i : Instance) : Type 0 where
+  pub at_worker : i.worker < length s.rows
+  pub epoch : has_epoch i.phase ≡ true → IsSome i.epoch
+  pub positions : is_fetched i.phase ≡ true → length i.positions ≡ length (parts_of i)
+  pub cut : has_cut i.phase ≡ true → IsSomeAnd i.cut (λ cut. cut.turn < length (parts_of i))
+
+-- the facts by which those of the group and of producers are kept from one event to the next
+pub record ShapeFacts {J : Type 0} (s : Cluster J) : Type 0 where
+  -- no worker has read more of the config log than there is
+  pub prefixes : AllByRecursion (λ row. row.prefix ≤ length s.configs) s.rows
+  -- each instance is at a worker, and has what its next step takes
+  pub shaped : AllByRecursion (IsShaped s) s.instances
+  -- a member that has joined a round waits for its assignment until that is planned, so that a row which has one was told of this plan
+  pub waiting : s.group.phase ≢ Planned → (w : ℕ) (member : Member) → member_of w s.group.members ≡ Some member → member.joined ≡ true →
+      (row_of w s).phase ≡ Joining
+  -- all have joined a round that is closed
+  pub all_joined : s.group.phase ≡ Closed → AllByRecursion (λ member. member.joined ≡ true) s.group.members

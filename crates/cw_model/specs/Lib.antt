@@ -27,4 +27,5 @@ pub mod Proposals
 pub mod Tick
 pub mod TickText
 pub mod Quiet
+pub mod WorkedCases
 pub mod Cases
