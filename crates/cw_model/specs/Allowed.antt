@@ -1,6 +1,6 @@
 -- What may stand where in the logs, so that they may be opened: each record is judged by what stands before it in its log, and each transaction by the
 -- transaction list (KIP-98, KIP-618). That opening judges all of it is this project's own.
-use Rattle.std.specs.Prelude.{◌≡◌, ℕ, ◌≤◌, ◌<◌, ◌+◌, Bool, true, false, List, [], ◌∷◌, ◌++◌, fold, max, option_map, Option, Some, None, IsSome, IsOk}
+use Rattle.std.specs.Prelude.{◌≡◌, ℕ, ◌≤◌, ◌<◌, Bool, true, false, List, [], ◌∷◌, ◌++◌, option_map, Option, Some, None, IsSome}
 use Rattle.std.specs.Bool.{⊤}
 use Rattle.std.specs.Option.{IsSomeAnd}
 use Rattle.std.specs.List.{filter_map, flat_map, list_any, AllByRecursion}
@@ -8,9 +8,6 @@ use Rattle.cw_types.specs.declared.ids.Tag.{Tag}
 use Rattle.cw_bytes.specs.declared.applied.Applied.{Applied}
 use Rattle.cw_keys.specs.Parts.{part_of}
 use Rattle.cw_keys.specs.Offsets.{offset_of}
-use Rattle.cw_keys.specs.Statuses.{status_of}
-use Rattle.cw_config.specs.declared.records.ConfigRecord.{ConfigRecord}
-use Rattle.cw_config.specs.Acceptance.{record_of}
 use Rattle.cw_txn.specs.declared.entry.Entry.{Entry}
 use Rattle.cw_txn.specs.Same.{same_tag}
 use Rattle.cw_txn.specs.Legal.{epoch_of, is_committed}
@@ -20,6 +17,8 @@ use Rattle.cw_data.specs.declared.entry.Batch.{Batch}
 use Rattle.cw_data.specs.declared.entry.DataEntry.{DataEntry}
 use Rattle.cw_data.specs.declared.entry.DataEntry.TheVariants as entry
 use Rattle.cw_feed.specs.Yield.{IsLine}
+use Rattle.cw_model.specs.Lookups.{next_after, offset_records, offset_tag, offset_mark}
+use Rattle.cw_model.specs.Bodies.{status_in}
 use Rattle.cw_model.specs.Committed.{batch_in, batches_of, is_batch_of}
 
 -- a fact of each member of a list and all those before it
@@ -27,30 +26,12 @@ abbrev pub EachFrom : {A : Type 0} → (List A → A → Type 0) → List A → 
 EachFrom P before [] = ⊤
 EachFrom P before (x ∷ xs) = P before x × EachFrom P (before ++ x ∷ []) xs
 
--- ---- the config log
-
--- the record that fields are, where key and value are in the grammar of the config topic
-abbrev pub config_in : Applied → Option ConfigRecord
-config_in a = record_of a.offset a.stamp a.key a.value
-
-abbrev pub configs_in : List (List Applied) → List ConfigRecord
-configs_in frames = filter_map config_in (flat_map (λ frame. frame) frames)
-
 -- ---- the status log
-
--- one above the greatest of the offsets, 0 where there is none
-abbrev pub end_of : List Applied → ℕ
-end_of records = fold (λ end r. max end (r.offset + 1)) 0 records
-
--- the status of an item that a value tells under its key
-abbrev pub IsStatusOf : List ℕ → Option (List ℕ) → Type 0
-IsStatusOf key None = ⊥
-IsStatusOf key (Some text) = IsOk (status_of key text)
 
 -- a status may stand behind these
 pub record IsAllowedStatus (before : List Applied) (r : Applied) : Type 0 where
-  pub above : end_of before ≤ r.offset
-  pub grammar : IsStatusOf r.key r.value
+  pub above : next_after before ≤ r.offset
+  pub grammar : IsSome (status_in r)
 
 -- ---- transactions in the offset log and the data log
 
@@ -69,19 +50,6 @@ pub record IsAllowedMark (entries : List Entry) (there marked : List Tag) (tag :
 
 -- ---- the offset log
 
--- the records, the transactions and the marked transactions of the offset log
-abbrev pub offset_records : OffsetEntry → List Applied
-offset_records (offset.Records tag records) = records
-offset_records (offset.Mark mark) = []
-
-abbrev pub offset_tag : OffsetEntry → Option Tag
-offset_tag (offset.Records tag records) = Some tag
-offset_tag (offset.Mark mark) = None
-
-abbrev pub offset_mark : OffsetEntry → Option Tag
-offset_mark (offset.Records tag records) = None
-offset_mark (offset.Mark mark) = Some mark.tag
-
 -- an offset of a part stands under the part's key
 abbrev pub IsOffsetOf : List ℕ → Option (List ℕ) → Type 0
 IsOffsetOf key None = ⊥
@@ -89,7 +57,7 @@ IsOffsetOf key (Some text) = IsSomeAnd (part_of key) (λ part. IsSome (offset_of
 
 -- an offset record may stand behind these
 pub record IsAllowedOffset (before : List Applied) (r : Applied) : Type 0 where
-  pub above : end_of before ≤ r.offset
+  pub above : next_after before ≤ r.offset
   pub grammar : IsOffsetOf r.key r.value
 
 -- an entry of the offset log may stand behind these

@@ -1,17 +1,23 @@
--- How many bytes each log has, and when it is full: a log has at most 2^28 bytes, and each frame is its body and five bytes more.
--- This project's own format.
-use Rattle.std.specs.Prelude.{ℕ, ◌+◌, ◌^◌, Bool, List, Some, map, length, nat_le, option_map}
+-- How records are written and read, how many bytes each log has, and when it is full: a log has at most 2^28 bytes, and each frame is its
+-- body and five bytes more. This project's own format.
+use Rattle.std.specs.Prelude.{ℕ, ◌+◌, ◌^◌, Bool, List, Option, Some, None, Result, Ok, Err, map, length, nat_le, option_map, option_and_then}
+use Rattle.std.specs.List.{filter_map}
+use Rattle.cw_types.specs.declared.ids.Item.{Item}
 use Rattle.cw_bytes.specs.declared.applied.Applied.{Applied}
 use Rattle.cw_bytes.specs.Spelling.{records_bytes}
 use Rattle.cw_keys.specs.ConfigKeys.{config_key_text}
 use Rattle.cw_keys.specs.Configs.{config_text}
-use Rattle.cw_keys.specs.Statuses.{status_key, status_text}
+use Rattle.cw_keys.specs.Statuses.{status_key, status_text, status_of}
+use Rattle.cw_keys.specs.declared.fault.KeyFault.{KeyFault}
+use Rattle.cw_keys.specs.declared.status.StatusValue.{StatusValue}
 use Rattle.cw_config.specs.declared.records.ConfigRecord.{ConfigRecord}
+use Rattle.cw_config.specs.Acceptance.{record_of}
 use Rattle.cw_txn.specs.Body.{entries_bytes}
 use Rattle.cw_offset.specs.Body.{entry_bytes as offset_body}
 use Rattle.cw_data.specs.Body.{entry_bytes as data_body}
 use Rattle.cw_log.specs.Log.{length_of}
 use Rattle.cw_model.specs.State.{Cluster, StampedStatus}
+use Rattle.cw_model.specs.Lookups.{joined}
 
 -- a record of the config log as it is written
 abbrev pub config_applied : ConfigRecord → Applied
@@ -29,9 +35,30 @@ status_applied r = record { offset = r.status.offset; stamp = r.stamp; key = sta
 abbrev pub status_body : List StampedStatus → List ℕ
 status_body records = records_bytes (map status_applied records)
 
--- how many bytes the config log has
+-- the record of the config log that fields are, where key and value are in its grammar; they may be spelled otherwise than they are written
+abbrev pub config_in : Applied → Option ConfigRecord
+config_in a = record_of a.offset a.stamp a.key a.value
+
+-- the records that frames of the config log are
+abbrev pub configs_in : List (List Applied) → List ConfigRecord
+configs_in frames = filter_map config_in (joined frames)
+
+-- the status of a key and a value that were read
+abbrev pub status_with : Applied → Result (Item × StatusValue) KeyFault → Option StampedStatus
+status_with a (Ok read) = Some (record { stamp = a.stamp; status = record { offset = a.offset; item = read.0; value = read.1 } })
+status_with a (Err fault) = None
+
+-- the record of the status log that fields are
+abbrev pub status_in : Applied → Option StampedStatus
+status_in a = option_and_then (λ text. status_with a (status_of a.key text)) a.value
+
+-- the records that frames of the status log are
+abbrev pub statuses_in : List (List Applied) → List StampedStatus
+statuses_in frames = filter_map status_in (joined frames)
+
+-- how many bytes the config log has, as its records are spelled there
 abbrev pub config_length : {J : Type 0} → Cluster J → ℕ
-config_length s = length_of (map config_body s.config.frames)
+config_length s = length_of (map records_bytes s.config.frames)
 
 -- how many bytes the offset log has
 abbrev pub offsets_length : {J : Type 0} → Cluster J → ℕ
@@ -39,7 +66,7 @@ offsets_length s = length_of (map offset_body s.offsets.frames)
 
 -- how many bytes the status log has
 abbrev pub status_length : {J : Type 0} → Cluster J → ℕ
-status_length s = length_of (map status_body s.status.frames)
+status_length s = length_of (map records_bytes s.status.frames)
 
 -- how many bytes the transaction log has
 abbrev pub txn_length : {J : Type 0} → Cluster J → ℕ

@@ -1,6 +1,6 @@
 -- Small states and steps for worked cases: one connector `s`, one or two workers, and what they run.
 use Rattle.std.specs.Prelude.{codes, true, ◌++◌, ◌^◌, ◌-◌, Option, ℕ, List, [], ◌∷◌, map, Some, None, Result}
-use Rattle.std.specs.List.{fold, flat_map}
+use Rattle.std.specs.List.{fold}
 use Rattle.cw_types.specs.declared.ids.Epoch.{Epoch}
 use Rattle.cw_types.specs.declared.ids.Item.{Item}
 use Rattle.cw_types.specs.declared.ids.Item.TheVariants.{Connector, Task}
@@ -44,7 +44,8 @@ use Rattle.cw_model.specs.EventsReports.{fail, put_status}
 use Rattle.cw_model.specs.EventsRaw.{raw_init, raw_commit}
 use Rattle.cw_model.specs.EventsMarking.{mark}
 use Rattle.cw_model.specs.State.{Setting, Cluster}
-use Rattle.cw_model.specs.Lookups.{new_row}
+use Rattle.cw_model.specs.Lookups.{new_row, joined}
+use Rattle.cw_model.specs.Bodies.{config_applied}
 use Rattle.cw_model.specs.Answers.{Answer}
 use Rattle.cw_model.specs.EventsWorkers.{spawn, kill, expire}
 use Rattle.cw_model.specs.EventsGroups.{join, close_round, store_plan, sync}
@@ -78,7 +79,7 @@ empty_cluster = record {
 
 -- a group without feeds, whose lost members are waited for 300 milliseconds
 abbrev pub small_setting : Setting
-small_setting = record { group = []; delay = 300; feeds = [] }
+small_setting = record { group = []; delay = 300; feeds = []; agreed = true }
 
 -- the state behind an event
 abbrev pub behind : {A : Type 0} → (Small → Answer ℕ A) → Small → Small
@@ -142,7 +143,7 @@ fenced_s offset count = written offset (key.Fencing name_s) (value.Fencing count
 
 -- these records stand in the config log, each in a frame of its own
 abbrev pub with_records : List ConfigRecord → Small → Small
-with_records records s = record s { config = record { frames = map (λ r. r ∷ []) records; side = 1 }; configs = records }
+with_records records s = record s { config = record { frames = map (λ r. config_applied r ∷ []) records; side = 1 }; configs = records }
 
 -- these entries stand in the transaction list, each in a frame of its own
 abbrev pub with_list : List Entry → Small → Small
@@ -267,8 +268,8 @@ abbrev pub offered : Small
 offered = behind (put_offsets 0) produced
 
 -- then it has committed both
-abbrev pub committed : Small
-committed = behind (commit 0) offered
+abbrev pub both_committed : Small
+both_committed = behind (commit 0) offered
 
 -- the topic `s` as a part of a sink `k`
 abbrev pub sink_part : PartKey
@@ -284,7 +285,7 @@ sink_task = record (instance_s Polling 1) {
 
 -- worker 0 has marked what the source committed, and the sink's task polls as instance 1
 abbrev pub sinking : Small
-sinking = record (behind (mark Batches) committed) { instances = committed.instances ++ sink_task ∷ [] }
+sinking = record (behind (mark Batches) both_committed) { instances = both_committed.instances ++ sink_task ∷ [] }
 
 -- a config of the task `i` of `s`
 abbrev pub task_config_s : ℕ → ℕ → ConfigRecord
@@ -298,7 +299,7 @@ two_task_sets =
 
 -- a cluster with this config log
 abbrev pub with_frames : List (List ConfigRecord) → Small
-with_frames frames = record empty_cluster { config = record { frames = frames; side = 1 }; configs = flat_map (λ frame. frame) frames }
+with_frames frames = record empty_cluster { config = record { frames = map (map config_applied) frames; side = 1 }; configs = joined frames }
 
 -- the offsets of what stands in the config log
 abbrev pub offsets_in : Small → List (List ℕ)
@@ -363,9 +364,25 @@ abbrev pub file_task : Instance
 file_task = record (instance_s Polling 1) { task = Some (record (spec_s 0) { class = FileStreamSource; parts = File name_s (102 ∷ []) ∷ [] }) }
 
 -- the records of the status log
-abbrev pub statuses_in : Small → List StatusRecord
-statuses_in s = map (λ r. r.status) s.statuses
+abbrev pub status_records : Small → List StatusRecord
+status_records s = map (λ r. r.status) s.statuses
 
 -- the task `s`-0 is reported, fails as fenced, and is reported again
 abbrev pub failed_then_reported : Small
 failed_then_reported = played (behind (put_status 0 (task_s 0)) ∷ behind (fail 0 (Fenced 1 2)) ∷ behind (put_status 0 (task_s 0)) ∷ []) polling
+
+-- a target state as an older version spells it: without `state.v2`, with a blank, and with a member that nobody reads
+abbrev pub older_target : Applied
+older_target = record {
+  offset = 0;
+  stamp = 0;
+  key = codes "target-state-s";
+  value = Some (123 ∷ 34 ∷ codes "by" ++ 34 ∷ 58 ∷ 49 ∷ 44 ∷ 32 ∷ 34 ∷ codes "state" ++ 34 ∷ 58 ∷ 34 ∷ codes "STOPPED" ++ 34 ∷ 125 ∷ []);
+}
+
+-- a log was opened that has such a record twice, in one frame
+abbrev pub opened_older : Small
+opened_older = record empty_cluster {
+  config = record { frames = (older_target ∷ record older_target { offset = 1 } ∷ []) ∷ []; side = 1 };
+  configs = written 0 (key.Target name_s) (value.Target Stopped) ∷ written 1 (key.Target name_s) (value.Target Stopped) ∷ [];
+}

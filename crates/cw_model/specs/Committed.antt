@@ -1,10 +1,9 @@
 -- What is committed of a source's part: the records of the transactions that were committed since its offset was last set, one after the other
 -- (KIP-618: records and offsets are committed together; KIP-875: offsets are set).
-use Rattle.std.specs.Prelude.{◌≡◌, ℕ, ◌&&◌, Bool, true, false, List, [], Option, Some, None, if◌then◌else◌}
+use Rattle.std.specs.Prelude.{◌≡◌, ℕ, ◌&&◌, Bool, true, false, List, [], Option, Some, None, is_some, if◌then◌else◌}
 use Rattle.std.specs.Option.{option_map_or}
 use Rattle.std.specs.List.{find, filter_map, flat_map, list_any, after_last, AllByRecursion}
 use Rattle.cw_types.specs.declared.ids.Tid.{Tid}
-use Rattle.cw_types.specs.declared.ids.Tid.TheVariants.{Lead, Task, Raw}
 use Rattle.cw_types.specs.declared.ids.Tag.{Tag}
 use Rattle.cw_types.specs.declared.ids.PartKey.{PartKey}
 use Rattle.cw_types.specs.declared.ids.Span.{Span}
@@ -18,12 +17,11 @@ use Rattle.cw_data.specs.declared.entry.DataEntry.TheVariants.{Batch as InBatch,
 use Rattle.cw_io.specs.Shelf.{Files}
 use Rattle.cw_feed.specs.Feeds.{IsOfSource}
 use Rattle.cw_feed.specs.Yield.{Yield}
+use Rattle.cw_model.specs.Lookups.{task_connector}
 
 -- whether a producer is a task
 abbrev pub is_task : Tid → Bool
-is_task Lead = false
-is_task (Task id) = true
-is_task (Raw n) = false
+is_task tid = is_some (task_connector tid)
 
 -- the batches of the data log
 abbrev pub batch_in : DataEntry → Option Batch

@@ -1,26 +1,23 @@
 -- Compaction of the logs of configs, offsets and statuses, as Kafka's compacted topics have it: what a later record replaces goes,
--- and offsets and stamps stay. That configs of tasks which wait for their commit are never touched, and which offset records go, is
+-- and offsets and stamps stay, and keys and values as they are spelled: only keys are looked at. That configs of tasks which wait for their commit are never touched, and which offset records go, is
 -- this project's own.
-use Rattle.std.specs.Prelude.{ℕ, ◌+◌, ◌-◌, ◌^◌, ◌==◌, ◌||◌, Bool, true, false, not, List, map, length, take, nat_le, nat_lt, bytes_eq, Option, Some, None, if◌then◌else◌}
+use Rattle.std.specs.Prelude.{ℕ, ◌+◌, ◌-◌, ◌^◌, ◌==◌, ◌||◌, Bool, true, false, not, List, map, length, take, nat_le, nat_lt, bytes_eq, option_map, Option, Some, None, if◌then◌else◌}
 use Rattle.std.specs.Bool.{⊤}
 use Rattle.std.specs.Option.{option_map_or}
-use Rattle.std.specs.List.{filter, flat_map, fold, list_any, after_first, range_with_len, last_or}
+use Rattle.std.specs.List.{filter, filter_map, flat_map, fold, list_any, after_first, range_with_len, last_or}
 use Rattle.cw_types.specs.declared.ids.Tag.{Tag}
-use Rattle.cw_types.specs.declared.ids.Item.{Item}
 use Rattle.cw_types.specs.declared.ids.PartKey.{PartKey}
 use Rattle.cw_types.specs.declared.logs.LogName.{LogName}
 use Rattle.cw_types.specs.declared.logs.LogName.TheVariants.{Config, Offsets, Status, Txn, Batches}
 use Rattle.cw_types.specs.declared.verdict.Verdict.{Verdict}
 use Rattle.cw_types.specs.declared.verdict.Verdict.TheVariants.{Committed, Aborted, Open}
-use Rattle.cw_assign.specs.Items.{same_item}
 use Rattle.cw_bytes.specs.declared.applied.Applied.{Applied}
+use Rattle.cw_keys.specs.ConfigKeys.{config_key}
 use Rattle.cw_keys.specs.Parts.{part_text}
 use Rattle.cw_keys.specs.declared.config_key.ConfigKey.{ConfigKey}
 use Rattle.cw_keys.specs.declared.config_key.ConfigKey.TheVariants as key
 use Rattle.cw_config.specs.declared.records.ConfigRecord.{ConfigRecord}
-use Rattle.cw_config.specs.Records.{last_of}
 use Rattle.cw_config.specs.View.{generation_of, is_behind}
-use Rattle.cw_config.specs.Acceptance.{end_of}
 use Rattle.cw_txn.specs.declared.entry.Entry.{Entry}
 use Rattle.cw_txn.specs.declared.entry.Entry.TheVariants.{Bump, Commit, Set}
 use Rattle.cw_txn.specs.Same.{same_tag}
@@ -28,19 +25,27 @@ use Rattle.cw_txn.specs.Legal.{is_commit_of, verdict_of}
 use Rattle.cw_offset.specs.declared.body.OffsetEntry.{OffsetEntry}
 use Rattle.cw_offset.specs.declared.body.OffsetEntry.TheVariants.{Records, Mark}
 use Rattle.cw_model.specs.declared.fault.WorldFault.TheVariants.{Full}
-use Rattle.cw_model.specs.State.{Cluster, Paired, StampedStatus}
+use Rattle.cw_model.specs.State.{Cluster, Paired}
 use Rattle.cw_model.specs.Answers.{Answer, refused, answered, at_open}
+use Rattle.cw_model.specs.Lookups.{joined, next_after, offset_records, offset_tag}
 use Rattle.cw_model.specs.Bodies.{config_length, offsets_length, status_length}
-use Rattle.cw_model.specs.Updates.{records_in}
 use Rattle.cw_model.specs.EventsMarking.{is_marked}
-
--- the records of all frames, in order
-abbrev pub in_frames : {A : Type 0} → List (List A) → List A
-in_frames frames = flat_map (λ frame. frame) frames
 
 -- frames with the records that stay; a frame of which none stays goes
 abbrev pub staying : {A : Type 0} → (A → Bool) → List (List A) → List (List A)
 staying stays frames = filter (λ frame. not (length frame == 0)) (map (filter stays) frames)
+
+-- the last record of a key
+abbrev pub last_of_key : List ℕ → List Applied → Option Applied
+last_of_key key records = last_or None (filter (λ r. bytes_eq r.key key) records)
+
+-- whether a record is the last one of its key
+abbrev pub is_last : List Applied → Applied → Bool
+is_last records r = option_map_or (λ last. last.offset == r.offset) (last_of_key r.key records) false
+
+-- a record of the config log without its value
+abbrev pub keyed : Applied → Option ConfigRecord
+keyed r = option_map (λ key. record { offset = r.offset; stamp = r.stamp; key = key; value = None }) (config_key r.key)
 
 -- the connector of a key of a task's config
 abbrev pub connector_of_task : ConfigKey → Option (List ℕ)
@@ -59,29 +64,17 @@ abbrev pub clean_point : List ConfigRecord → ℕ
 clean_point records =
     fold (λ clean at. if list_any (is_waiting (take at records)) (take at records) then clean else at) 0 (range_with_len 0 (length records + 1))
 
--- whether a record is the last one of its key
-abbrev pub is_last : List ConfigRecord → ConfigRecord → Bool
-is_last records r = option_map_or (λ last. last.offset == r.offset) (last_of r.key records) false
-
 -- whether a record of the config log stays, by those before the clean point
-abbrev pub config_stays : (before : List ConfigRecord) → ConfigRecord → Bool
-config_stays before r = nat_le (end_of before) r.offset || is_last before r
+abbrev pub config_stays : (before : List Applied) → Applied → Bool
+config_stays before r = nat_le (next_after before) r.offset || is_last before r
 
 -- the config log as a compaction leaves it
-abbrev pub compact_configs : List (List ConfigRecord) → List (List ConfigRecord)
-compact_configs frames = staying (config_stays (take (clean_point (in_frames frames)) (in_frames frames))) frames
+abbrev pub compact_configs : List (List Applied) → List (List Applied)
+compact_configs frames = let records = joined frames in staying (config_stays (take (clean_point (filter_map keyed records)) records)) frames
 
--- the last record of an item
-abbrev pub last_status : List StampedStatus → Item → Option StampedStatus
-last_status records item = last_or None (filter (λ r. same_item r.status.item item) records)
-
--- whether a record of the status log stays: it is the last one of its item
-abbrev pub status_stays : List StampedStatus → StampedStatus → Bool
-status_stays records r = option_map_or (λ last. last.status.offset == r.status.offset) (last_status records r.status.item) false
-
--- the status log as a compaction leaves it
-abbrev pub compact_statuses : List (List StampedStatus) → List (List StampedStatus)
-compact_statuses frames = staying (status_stays (in_frames frames)) frames
+-- the status log as a compaction leaves it: of each key the last record stays
+abbrev pub compact_statuses : List (List Applied) → List (List Applied)
+compact_statuses frames = staying (is_last (joined frames)) frames
 
 -- whether a key is that of a part
 abbrev pub is_key_of : List ℕ → PartKey → Bool
@@ -117,11 +110,6 @@ offset_goes entries log tag r =
     if is_aborted (verdict_of entries tag) then true else
     list_any (λ entry. sets_key r.key entry || replaces_key log r.key entry) (after_first (is_commit_of tag) entries)
 
--- whether an entry of the offset log has records of a transaction
-abbrev pub stores : Tag → OffsetEntry → Bool
-stores tag (Records other records) = same_tag tag other
-stores tag (Mark mark) = false
-
 -- an entry of the offset log with the records that stay
 abbrev pub records_staying : List Entry → List OffsetEntry → OffsetEntry → OffsetEntry
 records_staying entries log (Records tag records) = Records tag (filter (λ r. not (offset_goes entries log tag r)) records)
@@ -130,11 +118,11 @@ records_staying entries log (Mark mark) = Mark mark
 -- whether an entry of the offset log stays: it has records, or marks a transaction that has some
 abbrev pub offset_stays : List OffsetEntry → OffsetEntry → Bool
 offset_stays log (Records tag records) = not (length records == 0)
-offset_stays log (Mark mark) = list_any (stores mark.tag) log
+offset_stays log (Mark mark) = list_any (same_tag mark.tag) (filter_map offset_tag log)
 
 -- the entries that stay
 abbrev pub those_staying : List OffsetEntry → List OffsetEntry
-those_staying log = filter (offset_stays (filter (λ entry. not (length (records_in entry) == 0)) log)) log
+those_staying log = filter (offset_stays (filter (λ entry. not (length (offset_records entry) == 0)) log)) log
 
 -- the offset log as a compaction leaves it
 abbrev pub compact_offsets : List Entry → List OffsetEntry → List OffsetEntry
@@ -149,19 +137,19 @@ abbrev pub unless_worn : {J A : Type 0} → LogName → (size side : ℕ) → An
 unless_worn log size side done s = if nat_lt side (2 ^ 64 - 1) then done else refused (Full log size 0) s
 
 -- the config log gets these frames: the answer is how many records it had, and has
-abbrev pub compacts_configs : {J : Type 0} → List (List ConfigRecord) → Cluster J → Answer J (ℕ × ℕ)
+abbrev pub compacts_configs : {J : Type 0} → List (List Applied) → Cluster J → Answer J (ℕ × ℕ)
 compacts_configs frames s = unless_worn Config (config_length s) s.config.side
-    (answered (length (in_frames s.config.frames), length (in_frames frames)) (record s { config = on_other_side frames s.config })) s
+    (answered (length (joined s.config.frames), length (joined frames)) (record s { config = on_other_side frames s.config })) s
 
 -- the offset log gets these entries; markers aren't counted
 abbrev pub compacts_offsets : {J : Type 0} → List OffsetEntry → Cluster J → Answer J (ℕ × ℕ)
 compacts_offsets frames s = unless_worn Offsets (offsets_length s) s.offsets.side
-    (answered (length (flat_map records_in s.offsets.frames), length (flat_map records_in frames)) (record s { offsets = on_other_side frames s.offsets })) s
+    (answered (length (flat_map offset_records s.offsets.frames), length (flat_map offset_records frames)) (record s { offsets = on_other_side frames s.offsets })) s
 
 -- the status log gets these frames
-abbrev pub compacts_statuses : {J : Type 0} → List (List StampedStatus) → Cluster J → Answer J (ℕ × ℕ)
+abbrev pub compacts_statuses : {J : Type 0} → List (List Applied) → Cluster J → Answer J (ℕ × ℕ)
 compacts_statuses frames s = unless_worn Status (status_length s) s.status.side
-    (answered (length (in_frames s.status.frames), length (in_frames frames)) (record s { status = on_other_side frames s.status })) s
+    (answered (length (joined s.status.frames), length (joined frames)) (record s { status = on_other_side frames s.status })) s
 
 -- a log of two sides is compacted, the two others are not
 abbrev pub compacts : {J : Type 0} → LogName → Cluster J → Answer J (ℕ × ℕ)

@@ -1,6 +1,6 @@
 -- The leader marks how transactions ended, in the log that holds their records (KIP-98, control records). That each log is marked by
 -- its own event, in the order of the log, is this project's own.
-use Rattle.std.specs.Prelude.{◌&&◌, Bool, false, not, List, Option, Some, None, IsSome, unwrap_or}
+use Rattle.std.specs.Prelude.{◌&&◌, Bool, not, List, Option, None, IsSome, unwrap_or}
 use Rattle.std.specs.List.{find, filter_map, list_any}
 use Rattle.cw_types.specs.declared.ids.Tag.{Tag}
 use Rattle.cw_types.specs.declared.ids.Tid.TheVariants.{Lead}
@@ -10,31 +10,22 @@ use Rattle.cw_types.specs.declared.verdict.Verdict.{Verdict}
 use Rattle.cw_txn.specs.Same.{same_tag}
 use Rattle.cw_txn.specs.Legal.{is_committed, verdict_of}
 use Rattle.cw_offset.specs.declared.body.OffsetEntry.{OffsetEntry}
-use Rattle.cw_offset.specs.declared.body.OffsetEntry.TheVariants.{Records, Mark}
+use Rattle.cw_offset.specs.declared.body.OffsetEntry.TheVariants.{Mark}
 use Rattle.cw_offset.specs.Offsets.{has_ended}
 use Rattle.cw_data.specs.declared.entry.DataEntry.TheVariants.{Mark as DataMark}
 use Rattle.cw_data.specs.Log.{first_unmarked as first_unmarked_data}
 use Rattle.cw_model.specs.State.{Cluster}
+use Rattle.cw_model.specs.Lookups.{offset_tag, offset_mark}
 use Rattle.cw_model.specs.Answers.{Answer, answered, at_open}
 use Rattle.cw_model.specs.Updates.{appends_offset, appends_data}
 
--- the transaction of records in the offset log
-abbrev pub tag_in : OffsetEntry → Option Tag
-tag_in (Records tag records) = Some tag
-tag_in (Mark mark) = None
-
--- whether an entry of the offset log marks a transaction
-abbrev pub is_mark_of : Tag → OffsetEntry → Bool
-is_mark_of tag (Records other records) = false
-is_mark_of tag (Mark mark) = same_tag tag mark.tag
-
 -- whether a transaction is marked in the offset log
 abbrev pub is_marked : Tag → List OffsetEntry → Bool
-is_marked tag entries = list_any (is_mark_of tag) entries
+is_marked tag entries = list_any (same_tag tag) (filter_map offset_mark entries)
 
 -- the first transaction of the offset log that has ended and has no marker there
 abbrev pub first_unmarked_offset : (Tag → Verdict) → List OffsetEntry → Option Tag
-first_unmarked_offset verdict entries = find (λ tag. not (is_marked tag entries) && has_ended (verdict tag)) (filter_map tag_in entries)
+first_unmarked_offset verdict entries = find (λ tag. not (is_marked tag entries) && has_ended (verdict tag)) (filter_map offset_tag entries)
 
 -- the transaction that a log is to mark next
 abbrev pub unmarked_in : {J : Type 0} → LogName → Cluster J → Option Tag

@@ -1,6 +1,6 @@
 -- Producers of a script: they bump their epochs and commit spans of parts that no connector has, judged by their epoch alone
 -- (KIP-98). Such producers and parts are this project's own.
-use Rattle.std.specs.Prelude.{ℕ, ◌≤◌, ◌==◌, Bool, List, [], ◌∷◌, map, length, nat_le, Option, Some, None, unwrap_or}
+use Rattle.std.specs.Prelude.{ℕ, ◌≤◌, ◌==◌, Bool, List, [], ◌∷◌, map, length, nat_le, Option, Some, None}
 use Rattle.std.specs.List.{find, IsDistinct}
 use Rattle.cw_types.specs.declared.ids.Epoch.{Epoch}
 use Rattle.cw_types.specs.declared.ids.PartKey.TheVariants.{Raw}
@@ -8,10 +8,9 @@ use Rattle.cw_types.specs.declared.ids.Span.{Span}
 use Rattle.cw_types.specs.declared.ids.Tid.TheVariants.{Raw as RawTid}
 use Rattle.cw_txn.specs.declared.entry.Entry.{Entry}
 use Rattle.cw_txn.specs.declared.entry.Entry.TheVariants.{Commit}
-use Rattle.cw_txn.specs.History.{end_of}
 use Rattle.cw_model.specs.declared.fault.WorldFault.TheVariants.{Fenced, BadCut}
 use Rattle.cw_model.specs.State.{Cluster}
-use Rattle.cw_model.specs.Lookups.{last_epoch}
+use Rattle.cw_model.specs.Lookups.{last_epoch, end_or_start}
 use Rattle.cw_model.specs.Answers.{Answer, refused, at_open}
 use Rattle.cw_model.specs.Updates.{appends_entries, bumps, next_epoch, unless_fenced}
 
@@ -21,7 +20,7 @@ raw_init n = at_open (λ s. bumps (RawTid n) (λ t. t) (next_epoch (RawTid n) s)
 
 -- the span of a part up to a new end
 abbrev pub raw_span : List Entry → ℕ × ℕ → Span
-raw_span entries pair = record { part = Raw pair.0; from = unwrap_or (end_of (Raw pair.0) entries) 0; to = pair.1 }
+raw_span entries pair = record { part = Raw pair.0; from = end_or_start (Raw pair.0) entries; to = pair.1 }
 
 -- a span that doesn't grow its part
 abbrev pub is_bad_span : Span → Bool

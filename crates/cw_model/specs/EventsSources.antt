@@ -13,7 +13,6 @@ use Rattle.cw_keys.specs.Offsets.{offset_text}
 use Rattle.cw_config.specs.View.{generation_of, task_count_of, is_pending}
 use Rattle.cw_group.specs.Group.{next}
 use Rattle.cw_txn.specs.declared.entry.Entry.TheVariants.{Commit}
-use Rattle.cw_txn.specs.History.{end_of}
 use Rattle.cw_offset.specs.declared.body.OffsetEntry.TheVariants.{Records}
 use Rattle.cw_data.specs.declared.entry.DataEntry.{DataEntry}
 use Rattle.cw_data.specs.declared.entry.DataEntry.TheVariants.{Batch}
@@ -23,7 +22,7 @@ use Rattle.cw_model.specs.declared.instance.Instance.{Instance}
 use Rattle.cw_model.specs.declared.instance.InstancePhase.{InstancePhase}
 use Rattle.cw_model.specs.declared.instance.InstancePhase.TheVariants as phase
 use Rattle.cw_model.specs.State.{Setting, Cluster}
-use Rattle.cw_model.specs.Lookups.{instance_of}
+use Rattle.cw_model.specs.Lookups.{instance_of, end_or_start}
 use Rattle.cw_model.specs.Answers.{Answer, refused, answered, at_instance}
 use Rattle.cw_model.specs.Updates.{changes_instance, in_phase, stamp_of, next_offset, appends_offset, appends_entries, appends_data, bumps, next_epoch, as_producer, task_id_of, tid_of}
 use Rattle.cw_model.specs.Tasks.{parts_of, part_at, position_at, topic_of, count_of, is_source, tag_of, cut_of, span_of, taking, polling_from, yielded}
@@ -68,7 +67,7 @@ at_positions positions i = record i { phase = phase.Polling; number = 0; positio
 -- a verified task goes on from the committed end of each of its parts
 abbrev pub fetch : {J : Type 0} → ℕ → Cluster J → Answer J (Unit {0})
 fetch i = at_instance i (λ s. answered tt (changes_instance i
-    (at_positions (map (λ part. unwrap_or (end_of part s.entries) 0) (parts_of (instance_of i s)))) s))
+    (at_positions (map (λ part. end_or_start part s.entries) (parts_of (instance_of i s)))) s))
 
 -- its set is the newest, and all older ones are fenced
 abbrev pub MayFetch : {J : Type 0} → ℕ → Cluster J → Type 0

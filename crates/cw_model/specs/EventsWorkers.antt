@@ -1,6 +1,6 @@
 -- Workers come, are killed, turn deaf and hear again; and the group lets a lost member go, whose items wait for it through the
--- scheduled delay (KIP-415). That a worker may be deaf, and how many there are at most, is this project's own.
-use Rattle.std.specs.Prelude.{ℕ, ◌+◌, ◌-◌, ◌^◌, List, [], ◌∷◌, ◌++◌, length, min, true, false, nat_lt, if◌then◌else◌}
+-- scheduled delay (KIP-415). The clock, that a worker may be deaf, and how many there are at most, is this project's own.
+use Rattle.std.specs.Prelude.{ℕ, ◌+◌, ◌-◌, ◌^◌, List, [], ◌∷◌, ◌++◌, length, min, max, true, false, nat_lt, if◌then◌else◌}
 use Rattle.cw_types.specs.declared.ids.Item.{Item}
 use Rattle.cw_assign.specs.declared.delay.Delay.{Delay}
 use Rattle.cw_assign.specs.declared.delay.Delay.TheVariants.{Idle, Until}
@@ -51,3 +51,7 @@ loses setting gone s = record s { group = gone.1; lost = s.lost ++ gone.0; delay
 -- the group lets a member go
 abbrev pub expire : {J : Type 0} → Setting → ℕ → Cluster J → Answer J (Unit {0})
 expire setting w = at_open (λ s. at_group (expire_row w s.group) (λ gone. answered tt (loses setting gone s)) s)
+
+-- the clock is set to a time in milliseconds, and never back: the answer is the moment then. It is no event, and moves in a closed cluster too
+abbrev pub clock : {J : Type 0} → ℕ → Cluster J → Answer J ℕ
+clock to s = answered (max s.moment to) (record s { moment = max s.moment to })

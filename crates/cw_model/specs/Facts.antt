@@ -30,11 +30,11 @@ use Rattle.cw_model.specs.declared.instance.Instance.{Instance}
 use Rattle.cw_model.specs.declared.instance.InstancePhase.{InstancePhase}
 use Rattle.cw_model.specs.declared.instance.InstancePhase.TheVariants as phase
 use Rattle.cw_model.specs.State.{Cluster, Setting}
-use Rattle.cw_model.specs.Lookups.{row_of, instance_of, is_member, held, last_epoch}
+use Rattle.cw_model.specs.Lookups.{row_of, instance_of, is_member, held, last_epoch, end_or_start}
 use Rattle.cw_model.specs.Tasks.{parts_of}
 use Rattle.cw_model.specs.Fences.{fenced_generation_of}
 use Rattle.cw_model.specs.Committed.{batches_of}
-use Rattle.cw_model.specs.Safe.{IsDisjoint, IsBacked, end_or_start}
+use Rattle.cw_model.specs.Safe.{IsDisjoint, IsBacked}
 
 -- ---- the group and the rows
 

@@ -1,22 +1,15 @@
 -- Fences of a connector's older tasks (KIP-618): behind the record of a fence, no task of an older set commits. That a fence's mark is the length of
 -- the transaction list, and a generation the offset of a commit record, is this project's own.
-use Rattle.std.specs.Prelude.{◌≡◌, ℕ, ◌≤◌, true, List, ◌∷◌, ◌++◌, length, drop, Option, Some, None}
+use Rattle.std.specs.Prelude.{◌≡◌, ℕ, ◌≤◌, true, List, ◌∷◌, ◌++◌, length, drop, Option, Some}
 use Rattle.std.specs.Bool.{⊤}
 use Rattle.std.specs.List.{AllByRecursion, before_last}
-use Rattle.cw_types.specs.declared.ids.Tid.{Tid}
-use Rattle.cw_types.specs.declared.ids.Tid.TheVariants.{Lead, Task, Raw}
 use Rattle.cw_keys.specs.declared.config_key.ConfigKey.TheVariants.{Fencing}
 use Rattle.cw_config.specs.declared.records.ConfigRecord.{ConfigRecord}
 use Rattle.cw_config.specs.Records.{has_key}
 use Rattle.cw_config.specs.View.{generation_of}
 use Rattle.cw_txn.specs.declared.entry.Entry.{Entry}
 use Rattle.cw_txn.specs.declared.entry.Entry.TheVariants.{Bump, Commit, Set}
-
--- the connector of which a producer is a task
-abbrev pub task_connector : Tid → Option (List ℕ)
-task_connector Lead = None
-task_connector (Task id) = Some id.connector
-task_connector (Raw n) = None
+use Rattle.cw_model.specs.Lookups.{task_connector}
 
 -- a fence of a connector stands for a generation, with a mark: the generation is that of the last commit before it, and the mark is its stamp. A fence
 -- before which there is no commit, as compaction may leave one, stands for none

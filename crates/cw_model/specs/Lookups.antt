@@ -1,19 +1,26 @@
--- What is looked up in a state: a worker's row, an instance, what a worker has read of the config log, what it holds, and
--- which items are configured.
-use Rattle.std.specs.Prelude.{ℕ, ◌==◌, ◌&&◌, Bool, true, false, not, List, [], ◌∷◌, ◌++◌, map, take, length, nat_lt, slice_index_or, Option, Some, None, is_some, if◌then◌else◌}
-use Rattle.std.specs.List.{filter, filter_map, find, flat_map, list_any, range_with_len}
+-- What is looked up in a state: a worker's row, an instance, what a worker has read of the config log, what it holds, which items are
+-- configured, and what stands in the logs of offsets and transactions.
+use Rattle.std.specs.Prelude.{ℕ, ◌+◌, ◌==◌, ◌&&◌, Bool, true, false, not, List, [], ◌∷◌, map, take, nat_lt, slice_index_or, Option, Some, None, max, unwrap_or, is_some}
+use Rattle.std.specs.List.{filter, filter_map, flat_map, fold, range_with_len}
 use Rattle.cw_types.specs.declared.ids.Item.{Item}
 use Rattle.cw_types.specs.declared.ids.Item.TheVariants.{Connector, Task}
 use Rattle.cw_types.specs.declared.ids.Tid.{Tid}
-use Rattle.cw_types.specs.declared.ids.Tid.TheVariants.{Lead}
-use Rattle.cw_assign.specs.Items.{has, same_item, in_order}
+use Rattle.cw_types.specs.declared.ids.Tid.TheVariants as producer
+use Rattle.cw_types.specs.declared.ids.Tag.{Tag}
+use Rattle.cw_types.specs.declared.ids.PartKey.{PartKey}
+use Rattle.cw_bytes.specs.declared.applied.Applied.{Applied}
+use Rattle.cw_assign.specs.Items.{in_order}
 use Rattle.cw_group.specs.Members.{member_of}
 use Rattle.cw_group.specs.declared.member.Member.{Member}
 use Rattle.cw_config.specs.declared.records.ConfigRecord.{ConfigRecord}
 use Rattle.cw_config.specs.View.{config_of, task_count_of}
 use Rattle.cw_keys.specs.declared.config_key.ConfigKey.{ConfigKey}
 use Rattle.cw_keys.specs.declared.config_key.ConfigKey.TheVariants as key
+use Rattle.cw_txn.specs.declared.entry.Entry.{Entry}
+use Rattle.cw_txn.specs.History.{end_of}
 use Rattle.cw_txn.specs.Legal.{epoch_of}
+use Rattle.cw_offset.specs.declared.body.OffsetEntry.{OffsetEntry}
+use Rattle.cw_offset.specs.declared.body.OffsetEntry.TheVariants.{Records, Mark}
 use Rattle.cw_model.specs.declared.row.Row.{Row}
 use Rattle.cw_model.specs.declared.row.RowPhase.TheVariants.{Out}
 use Rattle.cw_model.specs.declared.instance.Instance.{Instance}
@@ -36,8 +43,18 @@ row_of w s = slice_index_or s.rows w no_row
 -- an instance that never was, which counts as ended
 abbrev pub no_instance : Instance
 no_instance = record {
-  worker = 0; item = Connector []; phase = phase.Ended; generation = 0; epoch = None; number = 0; task = None; positions = []; last = None; cut = None;
-  trace = None; reported = None;
+  worker = 0;
+  item = Connector [];
+  phase = phase.Ended;
+  generation = 0;
+  epoch = None;
+  number = 0;
+  task = None;
+  positions = [];
+  last = None;
+  cut = None;
+  trace = None;
+  reported = None;
 }
 
 -- the instance of a number
@@ -109,3 +126,40 @@ is_configured records (Task id) = is_some (config_of id.connector records) && na
 -- the last epoch of a producer
 abbrev pub last_epoch : {J : Type 0} → Tid → Cluster J → ℕ
 last_epoch tid s = epoch_of tid s.entries
+
+-- the connector of which a producer is a task
+abbrev pub task_connector : Tid → Option (List ℕ)
+task_connector producer.Lead = None
+task_connector (producer.Task id) = Some id.connector
+task_connector (producer.Raw n) = None
+
+-- the position behind what is committed of a part, 0 where nothing is
+abbrev pub end_or_start : PartKey → List Entry → ℕ
+end_or_start part entries = unwrap_or (end_of part entries) 0
+
+-- frames one behind the other
+abbrev pub joined : {A : Type 0} → List (List A) → List A
+joined frames = flat_map (λ frame. frame) frames
+
+-- one above the greatest of these offsets, 0 where there is none
+abbrev pub next_behind : List ℕ → ℕ
+next_behind offsets = fold (λ end offset. max end (offset + 1)) 0 offsets
+
+-- the offset behind those of these records
+abbrev pub next_after : List Applied → ℕ
+next_after records = next_behind (map (λ r. r.offset) records)
+
+-- the records of an entry of the offset log
+abbrev pub offset_records : OffsetEntry → List Applied
+offset_records (Records tag records) = records
+offset_records (Mark mark) = []
+
+-- the transaction of its records
+abbrev pub offset_tag : OffsetEntry → Option Tag
+offset_tag (Records tag records) = Some tag
+offset_tag (Mark mark) = None
+
+-- the transaction that it marks
+abbrev pub offset_mark : OffsetEntry → Option Tag
+offset_mark (Records tag records) = None
+offset_mark (Mark mark) = Some mark.tag

@@ -20,9 +20,8 @@ use Rattle.cw_model.specs.declared.instance.Instance.{Instance}
 use Rattle.cw_model.specs.declared.instance.InstancePhase.{InstancePhase}
 use Rattle.cw_model.specs.declared.instance.InstancePhase.TheVariants as phase
 use Rattle.cw_model.specs.State.{Cluster, Setting}
-use Rattle.cw_model.specs.Lookups.{seen, is_ended, is_member, held, connector_of, items_of}
+use Rattle.cw_model.specs.Lookups.{seen, is_ended, is_member, held, connector_of, items_of, end_or_start}
 use Rattle.cw_model.specs.EventsItems.{is_active}
-use Rattle.cw_model.specs.Safe.{end_or_start}
 use Rattle.cw_model.specs.Proposals.{proposal_of, tasks_of}
 use Rattle.cw_model.specs.Tick.{rule_for}
 

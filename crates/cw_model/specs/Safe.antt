@@ -1,6 +1,6 @@
 -- What it means that a state of the cluster is safe: current members run disjoint connectors and tasks (KIP-415), behind a fence no task of an older
 -- set commits (KIP-618), and what is committed of each source's part is what the source yields, each record once and in order.
-use Rattle.std.specs.Prelude.{◌≡◌, ◌≢◌, ℕ, true, false, List, [], ◌∷◌, unwrap_or}
+use Rattle.std.specs.Prelude.{◌≡◌, ◌≢◌, ℕ, true, false, List, [], ◌∷◌}
 use Rattle.std.specs.Bool.{⊤}
 use Rattle.std.specs.List.{filter, AllByRecursion}
 use Rattle.cw_types.specs.declared.ids.Item.{Item}
@@ -10,16 +10,16 @@ use Rattle.cw_types.specs.declared.ids.Span.{Span}
 use Rattle.cw_assign.specs.Items.{has}
 use Rattle.cw_txn.specs.declared.entry.Entry.{Entry}
 use Rattle.cw_txn.specs.declared.entry.Entry.TheVariants.{Bump, Commit, Set}
-use Rattle.cw_txn.specs.History.{base_of, end_of}
+use Rattle.cw_txn.specs.History.{base_of}
 use Rattle.cw_txn.specs.Legal.{IsLegal, Chains}
 use Rattle.cw_data.specs.declared.entry.Batch.{Batch}
 use Rattle.cw_data.specs.declared.entry.DataEntry.{DataEntry}
 use Rattle.cw_feed.specs.Feeds.{IsOfSource}
 use Rattle.cw_feed.specs.Yield.{Yield}
 use Rattle.cw_model.specs.State.{Cluster, Setting}
-use Rattle.cw_model.specs.Lookups.{is_member, held}
+use Rattle.cw_model.specs.Lookups.{is_member, held, end_or_start}
 use Rattle.cw_model.specs.Fences.{StandingFence, HoldsFrom}
-use Rattle.cw_model.specs.Committed.{is_task, batches_of, is_batch_of, committed_records, Agrees}
+use Rattle.cw_model.specs.Committed.{is_task, batches_of, is_batch_of, committed_records}
 
 -- two different current members hold nothing in common (KIP-415: what one gives up is given to another in a later round)
 abbrev pub IsDisjoint : {J : Type 0} → Cluster J → Type 0
@@ -29,19 +29,16 @@ IsDisjoint s = (v w : ℕ) (x : Item) → v ≢ w → is_member v s ≡ true →
 abbrev pub IsFenced : {J : Type 0} → Cluster J → Type 0
 IsFenced s = (name : List ℕ) (generation mark : ℕ) → StandingFence s.configs name generation mark → HoldsFrom name generation mark s.entries
 
--- the position behind what is committed of a part, 0 where nothing is
-abbrev pub end_or_start : PartKey → List Entry → ℕ
-end_or_start part entries = unwrap_or (end_of part entries) 0
-
 -- what is committed of a source's part is what it yields from its last set offset to its committed offset
 abbrev pub YieldsCommitted : {J : Type 0} → Setting → Cluster J → PartKey → Type 0
 YieldsCommitted setting s part =
     Yield setting.feeds part (base_of part s.entries) (end_or_start part s.entries) (committed_records part s.entries s.batches)
 
--- each committed span begins where the one before it ended, and, where the feeds agree, each part's committed records are right (KIP-618)
+-- each committed span begins where the one before it ended, and, where the feeds agreed when the logs were opened, each part's committed records are right
+-- (KIP-618)
 pub record IsExact {J : Type 0} (setting : Setting) (s : Cluster J) : Type 0 where
   pub chains : (part : PartKey) → Chains part s.entries
-  pub yields : Agrees setting.feeds s.entries s.batches → (part : PartKey) → IsOfSource part → YieldsCommitted setting s part
+  pub yields : setting.agreed ≡ true → (part : PartKey) → IsOfSource part → YieldsCommitted setting s part
 
 -- the data log has just one batch of a transaction and a span's part, and it begins and ends with the span
 pub record HasBatch (log : List DataEntry) (tag : Tag) (span : Span) : Type 0 where

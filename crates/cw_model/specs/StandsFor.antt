@@ -1,21 +1,17 @@
 -- When what the log files hold stands for a state without workers, and which harm is met first where it doesn't. All of it is this
 -- project's own, as are the files.
-use Rattle.std.specs.Prelude.{◌≡◌, ◌⊎◌, ℕ, ◌≤◌, true, List, [], ◌∷◌, ◌++◌, length, Option, Some, None, IsSome, Result, Ok, Err, option_and_then}
+use Rattle.std.specs.Prelude.{◌≡◌, ◌↔◌, ◌⊎◌, ℕ, ◌≤◌, true, List, [], ◌∷◌, ◌++◌, length, Some, None, IsSome}
 use Rattle.std.specs.Bool.{⊤}
 use Rattle.std.specs.Option.{IsSomeAnd}
-use Rattle.std.specs.List.{flat_map, AllZip, AllByRecursion, Any}
+use Rattle.std.specs.List.{AllZip, AllByRecursion, Any}
 use Rattle.cw_types.specs.declared.ids.Tag.{Tag}
 use Rattle.cw_types.specs.declared.ids.PartKey.{PartKey}
 use Rattle.cw_types.specs.declared.ids.Span.{Span}
-use Rattle.cw_types.specs.declared.ids.Item.{Item}
 use Rattle.cw_types.specs.declared.logs.LogName.{LogName}
 use Rattle.cw_types.specs.declared.logs.LogName.TheVariants.{Config, Offsets, Status, Txn, Batches}
 use Rattle.cw_bytes.specs.declared.applied.Applied.{Applied}
 use Rattle.cw_bytes.specs.Unread.{Unread}
 use Rattle.cw_bytes.specs.Reading.{Read, records_at, body_at}
-use Rattle.cw_keys.specs.declared.fault.KeyFault.{KeyFault}
-use Rattle.cw_keys.specs.declared.status.StatusValue.{StatusValue}
-use Rattle.cw_keys.specs.Statuses.{status_of}
 use Rattle.cw_config.specs.declared.records.ConfigRecord.{ConfigRecord}
 use Rattle.cw_log.specs.declared.fault.Harm.{Harm}
 use Rattle.cw_log.specs.declared.fault.Harm.TheVariants.{Magic, Version, Kind, Header, SameSide, Length, Content, Unsafe}
@@ -31,17 +27,19 @@ use Rattle.cw_offset.specs.BodyReading.{entry_at as stored_at}
 use Rattle.cw_data.specs.declared.entry.Batch.{Batch}
 use Rattle.cw_data.specs.declared.entry.DataEntry.{DataEntry}
 use Rattle.cw_data.specs.BodyReading.{entry_at as data_at}
-use Rattle.cw_model.specs.State.{Cluster, StampedStatus}
+use Rattle.cw_model.specs.State.{Setting, Cluster, Paired}
+use Rattle.cw_model.specs.Lookups.{joined}
+use Rattle.cw_model.specs.Bodies.{config_in, configs_in, statuses_in}
 use Rattle.cw_model.specs.Fences.{StandingFence, IsNotOlder}
-use Rattle.cw_model.specs.Committed.{is_task, batches_of, is_batch_of}
+use Rattle.cw_model.specs.Committed.{is_task, batches_of, is_batch_of, Agrees}
 use Rattle.cw_model.specs.ConfigsAllowed.{IsAllowedConfig}
-use Rattle.cw_model.specs.Allowed.{EachFrom, config_in, configs_in, IsAllowedStatus, IsAllowedStored, IsAllowedData}
+use Rattle.cw_model.specs.Allowed.{EachFrom, IsAllowedStatus, IsAllowedStored, IsAllowedData}
 
--- what the files of the five logs hold: the bodies of their frames
-pub record Bodies : Type 0 where
-  pub config : List (List ℕ)
-  pub offsets : List (List ℕ)
-  pub status : List (List ℕ)
+-- what the files of the five logs hold: the bodies of their frames, of a pair those of its chosen side, and that side's number
+pub record Stored : Type 0 where
+  pub config : Paired (List ℕ)
+  pub offsets : Paired (List ℕ)
+  pub status : Paired (List ℕ)
   pub txn : List (List ℕ)
   pub batches : List (List ℕ)
 
@@ -53,10 +51,6 @@ pub record Frames : Type 0 where
   pub txn : List (List Entry)
   pub batches : List DataEntry
 
--- frames one behind the other
-abbrev pub joined : {A : Type 0} → List (List A) → List A
-joined frames = flat_map (λ frame. frame) frames
-
 -- the transaction list that these frames hold
 abbrev pub entries_in : Frames → List Entry
 entries_in frames = joined frames.txn
@@ -67,12 +61,12 @@ entries_in frames = joined frames.txn
 abbrev pub AreReadAs : {A : Type 0} → (Unread → Read A) → List (List ℕ) → List A → Type 0
 AreReadAs at bodies frames = AllZip (λ body frame. body_at at body ≡ Some frame) bodies frames
 
-pub record AreRead (bodies : Bodies) (frames : Frames) : Type 0 where
-  pub config : AreReadAs records_at bodies.config frames.config
-  pub offsets : AreReadAs stored_at bodies.offsets frames.offsets
-  pub status : AreReadAs records_at bodies.status frames.status
-  pub txn : AreReadAs entries_at bodies.txn frames.txn
-  pub batches : AreReadAs data_at bodies.batches frames.batches
+pub record AreRead (stored : Stored) (frames : Frames) : Type 0 where
+  pub config : AreReadAs records_at stored.config.frames frames.config
+  pub offsets : AreReadAs stored_at stored.offsets.frames frames.offsets
+  pub status : AreReadAs records_at stored.status.frames frames.status
+  pub txn : AreReadAs entries_at stored.txn frames.txn
+  pub batches : AreReadAs data_at stored.batches frames.batches
 
 -- ---- the first that lacks something
 
@@ -117,12 +111,12 @@ pub record IsFirstOf (judge : LogName → Judgement) (log : LogName) (at : ℕ) 
 abbrev pub IsReadable : {A : Type 0} → (Unread → Read A) → List (List ℕ) → List ℕ → Type 0
 IsReadable at before body = IsSome (body_at at body)
 
-abbrev pub reading_of : Bodies → LogName → Judgement
-reading_of bodies Config = judged (IsReadable records_at) bodies.config
-reading_of bodies Offsets = judged (IsReadable stored_at) bodies.offsets
-reading_of bodies Status = judged (IsReadable records_at) bodies.status
-reading_of bodies Txn = judged (IsReadable entries_at) bodies.txn
-reading_of bodies Batches = judged (IsReadable data_at) bodies.batches
+abbrev pub reading_of : Stored → LogName → Judgement
+reading_of stored Config = judged (IsReadable records_at) stored.config.frames
+reading_of stored Offsets = judged (IsReadable stored_at) stored.offsets.frames
+reading_of stored Status = judged (IsReadable records_at) stored.status.frames
+reading_of stored Txn = judged (IsReadable entries_at) stored.txn
+reading_of stored Batches = judged (IsReadable data_at) stored.batches
 
 -- ---- then each must be allowed at its place
 
@@ -172,51 +166,47 @@ safety_of frames Batches = judged (λ before frame. ⊤) frames.batches
 -- ---- the first harm
 
 -- a body that is read, though the frame isn't allowed at its place
-pub record IsFirstNotAllowed (bodies : Bodies) (log : LogName) (at : ℕ) : Type 0 where
+pub record IsFirstNotAllowed (stored : Stored) (log : LogName) (at : ℕ) : Type 0 where
   pub frames : Frames
-  pub read : AreRead bodies frames
+  pub read : AreRead stored frames
   pub first : IsFirstOf (allowing_of frames) log at
 
 -- a frame that is allowed, and isn't safe
-pub record IsFirstUnsafe (bodies : Bodies) (log : LogName) (at : ℕ) : Type 0 where
+pub record IsFirstUnsafe (stored : Stored) (log : LogName) (at : ℕ) : Type 0 where
   pub frames : Frames
-  pub read : AreRead bodies frames
+  pub read : AreRead stored frames
   pub allowed : AreSound (allowing_of frames)
   pub first : IsFirstOf (safety_of frames) log at
 
 -- the first harm over all logs, and the number of its frame: all bodies are read before one is judged, and all are judged before one is called unsafe
-abbrev pub IsFirstHarm : Bodies → LogName → ℕ → Harm → Type 0
-IsFirstHarm bodies log at Magic = ⊥
-IsFirstHarm bodies log at Version = ⊥
-IsFirstHarm bodies log at Kind = ⊥
-IsFirstHarm bodies log at Header = ⊥
-IsFirstHarm bodies log at SameSide = ⊥
-IsFirstHarm bodies log at Length = ⊥
-IsFirstHarm bodies log at Content = IsFirstOf (reading_of bodies) log at ⊎ IsFirstNotAllowed bodies log at
-IsFirstHarm bodies log at Unsafe = IsFirstUnsafe bodies log at
+abbrev pub IsFirstHarm : Stored → LogName → ℕ → Harm → Type 0
+IsFirstHarm stored log at Magic = ⊥
+IsFirstHarm stored log at Version = ⊥
+IsFirstHarm stored log at Kind = ⊥
+IsFirstHarm stored log at Header = ⊥
+IsFirstHarm stored log at SameSide = ⊥
+IsFirstHarm stored log at Length = ⊥
+IsFirstHarm stored log at Content = IsFirstOf (reading_of stored) log at ⊎ IsFirstNotAllowed stored log at
+IsFirstHarm stored log at Unsafe = IsFirstUnsafe stored log at
 
 -- ---- the state
 
--- the status that fields are
-abbrev pub stamped_as : Applied → Result (Item × StatusValue) KeyFault → Option StampedStatus
-stamped_as a (Ok read) = Some (record { stamp = a.stamp; status = record { offset = a.offset; item = read.0; value = read.1 } })
-stamped_as a (Err fault) = None
+-- a pair of these frames on the side that was chosen
+abbrev pub on_side_of : {A : Type 0} → Paired (List ℕ) → List A → Paired A
+on_side_of chosen frames = record { frames = frames; side = chosen.side }
 
-abbrev pub status_in : Applied → Option StampedStatus
-status_in a = option_and_then (λ text. stamped_as a (status_of a.key text)) a.value
-
--- the logs of a state hold just these frames
-pub record Holds {J : Type 0} (frames : Frames) (s : Cluster J) : Type 0 where
-  pub config : AllZip (AllZip (λ a r. config_in a ≡ Some r)) frames.config s.config.frames
-  pub offsets : s.offsets.frames ≡ frames.offsets
-  pub status : AllZip (AllZip (λ a r. status_in a ≡ Some r)) frames.status s.status.frames
+-- the logs of a state hold just these frames, as they were spelled, and on the sides that were chosen
+pub record Holds {J : Type 0} (stored : Stored) (frames : Frames) (s : Cluster J) : Type 0 where
+  pub config : s.config ≡ on_side_of stored.config frames.config
+  pub offsets : s.offsets ≡ on_side_of stored.offsets frames.offsets
+  pub status : s.status ≡ on_side_of stored.status frames.status
   pub txn : s.txn ≡ frames.txn
   pub batches : s.batches ≡ frames.batches
 
--- a state as it is opened: its lists are what its logs hold, there is no worker, and nothing was done yet
+-- a state as it is opened: its lists are what its logs are read as, there is no worker, and nothing was done yet
 pub record IsOpened {J : Type 0} (s : Cluster J) : Type 0 where
-  pub configs : s.configs ≡ joined s.config.frames
-  pub statuses : s.statuses ≡ joined s.status.frames
+  pub configs : s.configs ≡ configs_in s.config.frames
+  pub statuses : s.statuses ≡ statuses_in s.status.frames
   pub entries : s.entries ≡ joined s.txn
   pub group : s.group ≡ empty_group
   pub lost : s.lost ≡ []
@@ -227,11 +217,15 @@ pub record IsOpened {J : Type 0} (s : Cluster J) : Type 0 where
   pub journal : s.journal ≡ []
   pub closed : s.closed ≡ None
 
--- the bodies stand for a state without workers: each is read, allowed at its place and safe
-pub record StandFor {J : Type 0} (bodies : Bodies) (s : Cluster J) : Type 0 where
+-- what is stored stands for a state without workers, and for no other: each body is read, allowed at its place and safe
+pub record StandFor {J : Type 0} (stored : Stored) (s : Cluster J) : Type 0 where
   pub frames : Frames
-  pub read : AreRead bodies frames
+  pub read : AreRead stored frames
   pub allowed : AreSound (allowing_of frames)
   pub safe : AreSound (safety_of frames)
-  pub holds : Holds frames s
+  pub holds : Holds stored frames s
   pub opened : IsOpened s
+
+-- a setting says of the state that was opened whether the feeds agree with it
+abbrev pub TellsWhetherFeedsAgree : {J : Type 0} → Setting → Cluster J → Type 0
+TellsWhetherFeedsAgree setting s = setting.agreed ≡ true ↔ Agrees setting.feeds s.entries s.batches

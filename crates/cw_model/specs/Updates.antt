@@ -1,8 +1,8 @@
 -- What the events change: a worker's row, an instance, a frame that one log has more. A record gets the next offset of its log, and
 -- as its stamp how long the transaction list was (this project's own). A log that has no room for a frame, or no offset for a
 -- record, is full. A leader or a task that writes under an epoch that isn't its producer's last is fenced (KIP-98, KIP-618).
-use Rattle.std.specs.Prelude.{ℕ, ◌+◌, ◌^◌, ◌==◌, ◌&&◌, Bool, List, [], ◌∷◌, ◌++◌, map, max, length, nat_lt, slice_set, Option, Some, None, if◌then◌else◌}
-use Rattle.std.specs.List.{fold, flat_map, list_all, enumerate_from}
+use Rattle.std.specs.Prelude.{ℕ, ◌+◌, ◌^◌, ◌==◌, ◌&&◌, Bool, List, [], ◌∷◌, ◌++◌, map, length, nat_lt, slice_set, Option, Some, None, if◌then◌else◌}
+use Rattle.std.specs.List.{flat_map, list_all, enumerate_from}
 use Rattle.cw_types.specs.declared.ids.Epoch.{Epoch}
 use Rattle.cw_types.specs.declared.ids.TaskId.{TaskId}
 use Rattle.cw_types.specs.declared.ids.Item.{Item}
@@ -10,7 +10,6 @@ use Rattle.cw_types.specs.declared.ids.Item.TheVariants.{Connector, Task}
 use Rattle.cw_types.specs.declared.ids.Tid.{Tid}
 use Rattle.cw_types.specs.declared.ids.Tid.TheVariants.{Lead, Task as TaskTid}
 use Rattle.cw_types.specs.declared.logs.LogName.TheVariants.{Config, Offsets, Status, Txn, Batches}
-use Rattle.cw_bytes.specs.declared.applied.Applied.{Applied}
 use Rattle.cw_keys.specs.declared.config_key.ConfigKey.{ConfigKey}
 use Rattle.cw_keys.specs.declared.config_value.ConfigValue.{ConfigValue}
 use Rattle.cw_config.specs.declared.records.ConfigRecord.{ConfigRecord}
@@ -19,7 +18,6 @@ use Rattle.cw_txn.specs.declared.entry.Entry.{Entry}
 use Rattle.cw_txn.specs.declared.entry.Entry.TheVariants.{Bump}
 use Rattle.cw_txn.specs.Body.{entries_bytes}
 use Rattle.cw_offset.specs.declared.body.OffsetEntry.{OffsetEntry}
-use Rattle.cw_offset.specs.declared.body.OffsetEntry.TheVariants.{Records, Mark}
 use Rattle.cw_offset.specs.Body.{entry_bytes as offset_body}
 use Rattle.cw_data.specs.declared.entry.DataEntry.{DataEntry}
 use Rattle.cw_data.specs.Body.{entry_bytes as data_body}
@@ -29,9 +27,9 @@ use Rattle.cw_model.specs.declared.instance.Instance.{Instance}
 use Rattle.cw_model.specs.declared.instance.InstancePhase.{InstancePhase}
 use Rattle.cw_model.specs.declared.instance.InstancePhase.TheVariants.{Ended}
 use Rattle.cw_model.specs.State.{Cluster, StampedStatus}
-use Rattle.cw_model.specs.Lookups.{row_of, instance_of, last_epoch}
+use Rattle.cw_model.specs.Lookups.{row_of, instance_of, last_epoch, next_behind, next_after, offset_records}
 use Rattle.cw_model.specs.Answers.{Answer, refused, answered}
-use Rattle.cw_model.specs.Bodies.{config_body, status_body, config_length, offsets_length, status_length, txn_length, data_length, frame_of, has_room}
+use Rattle.cw_model.specs.Bodies.{config_applied, status_applied, config_body, status_body, config_length, offsets_length, status_length, txn_length, data_length, frame_of, has_room}
 
 -- a worker's row, changed
 abbrev pub changes_row : {J : Type 0} → ℕ → (Row → Row) → Cluster J → Cluster J
@@ -53,10 +51,6 @@ ends_instances test s = record s { instances = map (λ i. if test i then in_phas
 abbrev pub stamp_of : {J : Type 0} → Cluster J → ℕ
 stamp_of s = length s.entries
 
--- one above the greatest of these offsets, 0 where there is none
-abbrev pub next_behind : List ℕ → ℕ
-next_behind offsets = fold (λ end offset. max end (offset + 1)) 0 offsets
-
 -- the offset of the next record of the config log; of each key the last record stays, so no compaction lowers it
 abbrev pub next_config : {J : Type 0} → Cluster J → ℕ
 next_config s = end_of s.configs
@@ -65,14 +59,9 @@ next_config s = end_of s.configs
 abbrev pub next_status : {J : Type 0} → Cluster J → ℕ
 next_status s = next_behind (map (λ r. r.status.offset) s.statuses)
 
--- the records of an entry of the offset log
-abbrev pub records_in : OffsetEntry → List Applied
-records_in (Records tag records) = records
-records_in (Mark mark) = []
-
 -- the offset of the next record of the offset log, by what stands there now
 abbrev pub next_offset : {J : Type 0} → Cluster J → ℕ
-next_offset s = next_behind (map (λ r. r.offset) (flat_map records_in s.offsets.frames))
+next_offset s = next_after (flat_map offset_records s.offsets.frames)
 
 -- records of the config log, as they get their offsets and stamps
 abbrev pub stamped : {J : Type 0} → List (ConfigKey × Option ConfigValue) → Cluster J → List ConfigRecord
@@ -82,9 +71,10 @@ stamped records s = map (λ r. record { offset = r.0; stamp = stamp_of s; key = 
 abbrev pub is_offset : ℕ → Bool
 is_offset offset = nat_lt offset (2 ^ 64)
 
--- one frame more of the config log
+-- one frame more of the config log: the records as they are written
 abbrev pub with_configs : {J : Type 0} → List ConfigRecord → Cluster J → Cluster J
-with_configs frame s = record s { config = record (s.config) { frames = s.config.frames ++ frame ∷ [] }; configs = s.configs ++ frame }
+with_configs records s =
+    record s { config = record (s.config) { frames = s.config.frames ++ map config_applied records ∷ [] }; configs = s.configs ++ records }
 
 -- one entry more of the offset log
 abbrev pub with_offset : {J : Type 0} → OffsetEntry → Cluster J → Cluster J
@@ -92,7 +82,8 @@ with_offset entry s = record s { offsets = record (s.offsets) { frames = s.offse
 
 -- one record more of the status log
 abbrev pub with_status : {J : Type 0} → StampedStatus → Cluster J → Cluster J
-with_status r s = record s { status = record (s.status) { frames = s.status.frames ++ (r ∷ []) ∷ [] }; statuses = s.statuses ++ r ∷ [] }
+with_status r s =
+    record s { status = record (s.status) { frames = s.status.frames ++ (status_applied r ∷ []) ∷ [] }; statuses = s.statuses ++ r ∷ [] }
 
 -- one frame more of the transaction log
 abbrev pub with_entries : {J : Type 0} → List Entry → Cluster J → Cluster J
@@ -112,7 +103,7 @@ appends_configs frame change answer s =
 -- an entry is written to the offset log
 abbrev pub appends_offset : {J A : Type 0} → OffsetEntry → (Cluster J → Cluster J) → A → Cluster J → Answer J A
 appends_offset entry change answer s =
-    if list_all (λ r. is_offset r.offset) (records_in entry) && has_room (offsets_length s) (frame_of (offset_body entry))
+    if list_all (λ r. is_offset r.offset) (offset_records entry) && has_room (offsets_length s) (frame_of (offset_body entry))
     then answered answer (change (with_offset entry s))
     else refused (Full Offsets (offsets_length s) (frame_of (offset_body entry))) s
 

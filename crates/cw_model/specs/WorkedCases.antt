@@ -1,6 +1,6 @@
--- Clusters of worked cases: an empty one, some of which a sentence of safety is false, some whose ticks are told, and the story of one
--- source connector from its creation to its first commit.
-use Rattle.std.specs.Prelude.{ℕ, ◌+◌, List, [], ◌∷◌, ◌++◌, codes, decimal, replicate, Option, Some, None, Result, Ok, Err, map, true, false}
+-- Clusters of worked cases: some of which a sentence of safety is false, some whose ticks are told, and the story of one source connector
+-- from its creation to its first commit.
+use Rattle.std.specs.Prelude.{ℕ, List, [], ◌∷◌, ◌++◌, codes, decimal, replicate, Option, Some, None, Result, Ok, Err, map, true, false}
 use Rattle.cw_types.specs.declared.ids.TaskId.{TaskId}
 use Rattle.cw_types.specs.declared.ids.Span.{Span}
 use Rattle.cw_types.specs.declared.ids.Epoch.{Epoch}
@@ -10,7 +10,6 @@ use Rattle.cw_types.specs.declared.ids.Item.TheVariants.{Connector, Task as Task
 use Rattle.cw_types.specs.declared.ids.Tid.TheVariants.{Lead, Task}
 use Rattle.cw_types.specs.declared.ids.PartKey.{PartKey}
 use Rattle.cw_types.specs.declared.ids.PartKey.TheVariants.{Raw, File, Seq, Sink}
-use Rattle.cw_assign.specs.declared.delay.Delay.TheVariants.{Idle}
 use Rattle.cw_bytes.specs.declared.applied.Applied.{Applied}
 use Rattle.cw_group.specs.declared.answers.Phase.TheVariants.{Planned}
 use Rattle.cw_group.specs.declared.member.Member.{Member}
@@ -39,7 +38,7 @@ use Rattle.cw_model.specs.declared.row.RowPhase.TheVariants.{Stable}
 use Rattle.cw_model.specs.declared.instance.Cut.{Cut}
 use Rattle.cw_model.specs.declared.instance.Instance.{Instance}
 use Rattle.cw_model.specs.declared.instance.InstancePhase.TheVariants as phase
-use Rattle.cw_model.specs.State.{Cluster, Setting, StampedStatus}
+use Rattle.cw_model.specs.State.{Setting, StampedStatus}
 use Rattle.cw_model.specs.Lookups.{new_row, no_instance}
 use Rattle.cw_model.specs.Answers.{Answer}
 use Rattle.cw_model.specs.EventsWorkers.{spawn}
@@ -48,32 +47,9 @@ use Rattle.cw_model.specs.EventsLeading.{append_config}
 use Rattle.cw_model.specs.EventsSources.{init, verify, fetch, produce, put_offsets, commit}
 use Rattle.cw_model.specs.Tick.{tick}
 use Rattle.cw_model.specs.TickText.{words, tick_text}
-use Rattle.cw_model.specs.StandsFor.{Bodies}
-
--- a cluster of a case, without a journal
-abbrev pub Case : Type 0
-Case = Cluster (Unit {0})
-
--- nothing was ever written, and there is no worker
-abbrev pub empty_cluster : Case
-empty_cluster = record {
-  config = record { frames = []; side = 1 };
-  offsets = record { frames = []; side = 1 };
-  status = record { frames = []; side = 1 };
-  txn = [];
-  batches = [];
-  configs = [];
-  statuses = [];
-  entries = [];
-  group = empty_group;
-  lost = [];
-  delay = Idle;
-  moment = 0;
-  rows = [];
-  instances = [];
-  journal = [];
-  closed = None;
-}
+use Rattle.cw_model.specs.StandsFor.{Stored}
+use Rattle.cw_model.specs.Cases.{Small, empty_cluster}
+use Rattle.cw_model.specs.Bodies.{config_applied, status_applied}
 
 -- a connector and its first task
 abbrev pub name : List ℕ
@@ -96,7 +72,7 @@ abbrev pub late_commit : Entry
 late_commit =
     Commit (record { number = 0; epoch = record { 0 = 1 }; tid = Task first_task }) 1 (record { part = Seq name 0; from = 0; to = 5 } ∷ [])
 
-abbrev pub overtaken : Case
+abbrev pub overtaken : Small
 overtaken = record empty_cluster { configs = commit_record ∷ fence_record ∷ []; entries = Bump (Task first_task) ∷ late_commit ∷ [] }
 
 -- ---- two members run one connector
@@ -107,7 +83,7 @@ member_row incarnation = record new_row { incarnation = Some incarnation }
 abbrev pub running_at : ℕ → Instance
 running_at w = record no_instance { worker = w; item = Connector name; phase = phase.Connector }
 
-abbrev pub doubled : Case
+abbrev pub doubled : Small
 doubled = record empty_cluster {
   group = record empty_group { made = 2; members = new_member 0 1 ∷ new_member 1 2 ∷ [] };
   rows = member_row 1 ∷ member_row 2 ∷ [];
@@ -116,27 +92,33 @@ doubled = record empty_cluster {
 
 -- ---- a commit stands without its batch
 
-abbrev pub unbacked : Case
+abbrev pub unbacked : Small
 unbacked = record empty_cluster { entries = Bump (Task first_task) ∷ late_commit ∷ [] }
 
 -- ---- a worker was just made; one was killed, and one is deaf
 
-abbrev pub one_worker : Case
+abbrev pub one_worker : Small
 one_worker = record empty_cluster { rows = new_row ∷ [] }
 
-abbrev pub killed_worker : Case
+abbrev pub killed_worker : Small
 killed_worker = record empty_cluster { rows = record new_row { live = false } ∷ [] }
 
-abbrev pub deaf_worker : Case
+abbrev pub deaf_worker : Small
 deaf_worker = record empty_cluster { rows = record new_row { hearing = false } ∷ [] }
 
 -- ---- nothing is in the files; the config log's only body is one byte
 
-abbrev pub no_bodies : Bodies
-no_bodies = record { config = []; offsets = []; status = []; txn = []; batches = [] }
+abbrev pub no_bodies : Stored
+no_bodies = record {
+  config = record { frames = []; side = 1 };
+  offsets = record { frames = []; side = 1 };
+  status = record { frames = []; side = 1 };
+  txn = [];
+  batches = [];
+}
 
-abbrev pub one_byte : Bodies
-one_byte = record no_bodies { config = (9 ∷ []) ∷ [] }
+abbrev pub one_byte : Stored
+one_byte = record no_bodies { config = record { frames = (9 ∷ []) ∷ []; side = 1 } }
 
 -- ---- the story of a source
 
@@ -147,7 +129,7 @@ orders =
     codes "line-07" ++ 10 ∷ codes "line-08" ++ 10 ∷ codes "line-09" ++ 10 ∷ codes "line-10" ++ 10 ∷ codes "line-11" ++ 10 ∷ codes "line-12" ++ 10 ∷ []
 
 abbrev pub setting : Setting
-setting = record { group = codes "connect-cluster"; delay = 300000; feeds = (codes "orders", orders) ∷ [] }
+setting = record { group = codes "connect-cluster"; delay = 300000; feeds = (codes "orders", orders) ∷ []; agreed = true }
 
 -- its config, as a user creates it
 abbrev pub properties : Properties
@@ -196,11 +178,11 @@ abbrev pub text_of : {A : Type 0} → Result A WorldFault → (A → List ℕ) �
 text_of (Ok x) text = text x
 text_of (Err fault) text = codes "refused"
 
-abbrev pub telling : {A : Type 0} → Answer (Unit {0}) A → (A → List ℕ) → List ℕ × Case
+abbrev pub telling : {A : Type 0} → Answer ℕ A → (A → List ℕ) → List ℕ × Small
 telling did text = (text_of did.0 text, did.1)
 
 -- one move at worker 0 or at its task, which is instance 1
-abbrev pub moves : Move → Case → List ℕ × Case
+abbrev pub moves : Move → Small → List ℕ × Small
 moves Spawn s = telling (spawn s) (λ w. words (codes "worker" ∷ decimal w ∷ []))
 moves Ticks s = telling (tick 0 s) (tick_text setting.group)
 moves Create s = telling (append_config 0 created s) (λ offset. words (codes "created" ∷ decimal offset ∷ []))
@@ -213,7 +195,7 @@ moves PutOffsets s = telling (put_offsets 1 s) (λ _. codes "offsets")
 moves Commits s = telling (commit 1 s) span_text
 
 -- what is told of some moves, and the state behind them
-abbrev pub plays : List Move → Case → List (List ℕ) × Case
+abbrev pub plays : List Move → Small → List (List ℕ) × Small
 plays [] s = ([], s)
 plays (move ∷ later) s = let first = moves move s in let rest = plays later first.1 in (first.0 ∷ rest.0, rest.1)
 
@@ -266,7 +248,7 @@ sole_member kept fresh = record (new_member 0 1) {
 }
 
 -- the worker leads
-abbrev pub led : Case
+abbrev pub led : Small
 led = record empty_cluster {
   txn = (Bump Lead ∷ []) ∷ [];
   entries = Bump Lead ∷ [];
@@ -290,9 +272,9 @@ abbrev pub task_instance : Instance
 task_instance = record no_instance { item = TaskItem first_task; phase = phase.New; generation = 2; task = Some task }
 
 -- connector and task were started
-abbrev pub started : Case
+abbrev pub started : Small
 started = record led {
-  config = record { frames = map (λ r. r ∷ []) all_configs; side = 1 };
+  config = record { frames = map (λ r. config_applied r ∷ []) all_configs; side = 1 };
   configs = all_configs;
   group = record {
     round = 3;
@@ -335,10 +317,10 @@ abbrev pub all_statuses : List StampedStatus
 all_statuses = running_status 0 (Connector name) ∷ running_status 1 (TaskItem first_task) ∷ []
 
 -- the task committed all of its feed, and the transaction is marked
-abbrev pub committed : Case
+abbrev pub committed : Small
 committed = record started {
   offsets = record { frames = Records first_tag (offset_applied ∷ []) ∷ OffsetMark (record { tag = first_tag; committed = true }) ∷ []; side = 1 };
-  status = record { frames = map (λ r. r ∷ []) all_statuses; side = 1 };
+  status = record { frames = map (λ r. status_applied r ∷ []) all_statuses; side = 1 };
   txn = map (λ entry. entry ∷ []) all_entries;
   batches = InBatch batch ∷ DataMark first_tag true ∷ [];
   statuses = all_statuses;
@@ -356,5 +338,5 @@ committed = record started {
 
 -- ---- a later leader has claimed its epoch, before the connector that runs has its tasks
 
-abbrev pub outrun : Case
+abbrev pub outrun : Small
 outrun = let s = (plays (Create ∷ Read ∷ ticks 5) led).1 in record s { txn = s.txn ++ (Bump Lead ∷ []) ∷ []; entries = s.entries ++ Bump Lead ∷ [] }

@@ -9,7 +9,8 @@ ghost use Rattle.cw_model.specs.Safe.{IsSafe, IsDisjoint, IsFenced, IsBacked};
 ghost use Rattle.cw_model.specs.StandsFor.{StandFor, IsFirstHarm};
 ghost use Rattle.cw_model.specs.Tick.{tick};
 ghost use Rattle.cw_model.specs.Quiet.{IsQuiet, IsDoneFor};
-ghost use Rattle.cw_model.specs.WorkedCases.{empty_cluster, overtaken, doubled, unbacked, one_worker, killed_worker, deaf_worker, no_bodies, one_byte, setting, name, part, plays, ticks, beginning, middle, ending, lines, led, started, committed, outrun};
+ghost use Rattle.cw_model.specs.Cases.{empty_cluster};
+ghost use Rattle.cw_model.specs.WorkedCases.{overtaken, doubled, unbacked, one_worker, killed_worker, deaf_worker, no_bodies, one_byte, setting, name, part, plays, ticks, beginning, middle, ending, lines, led, started, committed, outrun};
 
 /// Where nothing was ever written, the cluster is safe, whatever its feeds.
 pub fn empty_cluster_is_safe()

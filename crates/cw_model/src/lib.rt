@@ -37,7 +37,9 @@ pub use judged::{
     outrun_leader_loses_its_lead, shared_connector_is_not_disjoint, started_task_commits,
     story_ends_done, story_ends_quiet, unreadable_body_is_the_first_harm,
 };
-pub use rebalances::{lost_task_waits_through_the_delay, rebalance_revokes_before_it_gives};
+pub use rebalances::{
+    clock_never_goes_back, lost_task_waits_through_the_delay, rebalance_revokes_before_it_gives,
+};
 pub use refusals::{
     closed_cluster_takes_no_event, ended_instance_takes_no_event, killed_worker_takes_no_event,
     refused_event_changes_nothing,
@@ -45,10 +47,10 @@ pub use refusals::{
 pub use reports::{failed_task_is_reported_with_its_trace, restart_reaches_workers_that_hear};
 pub use row::{Fencing, Row, RowPhase};
 pub use steps::{
-    committed_records_are_stable_once_marked, config_log_keeps_the_last_of_each_key,
-    cut_ends_behind_a_line, offset_log_keeps_the_last_committed_of_each_part,
-    script_producer_is_judged_by_its_epoch, sink_stores_how_far_it_came,
-    task_commits_records_with_their_offset,
+    committed_records_are_stable_once_marked, compaction_leaves_spellings_as_they_are,
+    config_log_keeps_the_last_of_each_key, cut_ends_behind_a_line,
+    offset_log_keeps_the_last_committed_of_each_part, script_producer_is_judged_by_its_epoch,
+    sink_stores_how_far_it_came, task_commits_records_with_their_offset,
 };
 pub use tick::Tick;
 pub use yields::what_is_yielded_is_the_feeds_yield;

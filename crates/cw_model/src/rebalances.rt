@@ -1,7 +1,8 @@
 //! Worked cases of rebalances: each begins with no worker, and every event is computed (KIP-415).
-ghost use Rattle.std.specs.Prelude.{◌≡◌, ◌∷◌, []};
+ghost use Rattle.std.specs.Prelude.{◌≡◌, ◌∷◌, [], Ok};
 ghost use Rattle.cw_model.specs.Lookups.{row_of};
-ghost use Rattle.cw_model.specs.Cases.{connector_s, task_s, at_one_worker, revoked_from_one, at_two_workers, lost_one, waiting_out, given_back};
+ghost use Rattle.cw_model.specs.EventsWorkers.{clock};
+ghost use Rattle.cw_model.specs.Cases.{behind, answer_of, connector_s, task_s, at_one_worker, revoked_from_one, at_two_workers, lost_one, waiting_out, given_back};
 ghost use Rattle.cw_assign.specs.declared.delay.Delay.TheVariants.{Idle, Until};
 
 /// A second worker comes: the first round takes a task from the first worker and gives it to nobody, and only the
@@ -21,4 +22,10 @@ pub fn lost_task_waits_through_the_delay()
     ensures waits { (row_of 0 waiting_out).assigned ≡ connector_s ∷ task_s 0 ∷ [] }
     ensures given { (row_of 0 given_back).assigned ≡ connector_s ∷ task_s 0 ∷ task_s 1 ∷ [] }
     ensures over { given_back.delay ≡ Idle }
+{}
+
+/// The clock moves the moment on, and never back.
+pub fn clock_never_goes_back()
+    ensures on { answer_of (clock 7) lost_one ≡ Ok 7 }
+    ensures kept { clock 5 (behind (clock 7) lost_one) ≡ (Ok 7, behind (clock 7) lost_one) }
 {}

@@ -6,13 +6,13 @@ ghost use Rattle.cw_model.specs.Lookups.{held};
 ghost use Rattle.cw_model.specs.EventsWorkers.{deaf};
 ghost use Rattle.cw_model.specs.EventsItems.{restart};
 ghost use Rattle.cw_model.specs.EventsReports.{put_status};
-ghost use Rattle.cw_model.specs.Cases.{behind, played, task_s, polling, statuses_in, failed_then_reported, at_two_workers};
+ghost use Rattle.cw_model.specs.Cases.{behind, played, task_s, polling, status_records, failed_then_reported, at_two_workers};
 
 /// A task is reported as it runs, and with its trace once it has failed.
 pub fn failed_task_is_reported_with_its_trace()
-    ensures runs { latest (task_s 0) (statuses_in (behind (put_status 0 (task_s 0)) polling)) ≡
+    ensures runs { latest (task_s 0) (status_records (behind (put_status 0 (task_s 0)) polling)) ≡
         Some (record { state = Running; trace = None; worker = 0; round = 0 }) }
-    ensures failed { latest (task_s 0) (statuses_in failed_then_reported) ≡
+    ensures failed { latest (task_s 0) (status_records failed_then_reported) ≡
         Some (record { state = Failed; trace = Some (codes "Fenced: epoch 1, current 2"); worker = 0; round = 0 }) }
 {}
 

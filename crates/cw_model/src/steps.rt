@@ -6,19 +6,19 @@ ghost use Rattle.cw_data.specs.Log.{stable, taken};
 ghost use Rattle.cw_model.specs.declared.fault.WorldFault.TheVariants.{BadCut, Fenced};
 ghost use Rattle.cw_model.specs.Lookups.{instance_of};
 ghost use Rattle.cw_model.specs.Answers.{refused};
-ghost use Rattle.cw_model.specs.Bodies.{txn_length};
+ghost use Rattle.cw_model.specs.Bodies.{config_length, txn_length};
 ghost use Rattle.cw_model.specs.EventsSources.{produce, commit, is_bad_cut};
 ghost use Rattle.cw_model.specs.Tasks.{part_at, yielded};
 ghost use Rattle.cw_model.specs.EventsMarking.{mark};
 ghost use Rattle.cw_model.specs.EventsCompaction.{compact};
-ghost use Rattle.cw_model.specs.Cases.{behind, answer_of, empty_cluster, small_setting, name_s, part_s, span_s, tag_s, polling, cut_to, offered, committed, sunk, sink_part, script_begun, script_begun_again, commit_five, feed_f, file_task, two_task_sets, task_config_s, with_frames, offsets_in, twice_committed};
+ghost use Rattle.cw_model.specs.Cases.{behind, answer_of, empty_cluster, small_setting, name_s, part_s, span_s, tag_s, polling, cut_to, offered, both_committed, sunk, sink_part, script_begun, script_begun_again, commit_five, feed_f, file_task, two_task_sets, task_config_s, with_frames, offsets_in, older_target, opened_older, twice_committed};
 
 /// A source's task writes records and their offset, and commits both at once (KIP-618).
 pub fn task_commits_records_with_their_offset()
     ensures bad { produce small_setting 0 (cut_to 5) polling ≡ refused (BadCut 0 5) polling }
     ensures span { answer_of (commit 0) offered ≡ Ok (span_s 0 2) }
-    ensures end { end_of (part_s 0) committed.entries ≡ Some 2 }
-    ensures goes_on { (instance_of 0 committed).positions ≡ 2 ∷ [] }
+    ensures end { end_of (part_s 0) both_committed.entries ≡ Some 2 }
+    ensures goes_on { (instance_of 0 both_committed).positions ≡ 2 ∷ [] }
 {}
 
 /// A cut of a feed ends behind a line's end, and what is written for it are its whole lines (Kafka Connect's
@@ -32,11 +32,11 @@ pub fn cut_ends_behind_a_line()
 
 /// What a task committed is stable once it is marked, in the data log and in the offset log.
 pub fn committed_records_are_stable_once_marked()
-    ensures unstable { stable name_s committed.batches ≡ 0 }
-    ensures marker { answer_of (mark Batches) committed ≡ Ok (tag_s 1, true) }
-    ensures stable { stable name_s (behind (mark Batches) committed).batches ≡ 2 }
-    ensures record_ { taken name_s 1 (behind (mark Batches) committed).batches ≡ Some (1, codes "0-1") }
-    ensures offset { answer_of (mark Offsets) committed ≡ Ok (tag_s 1, true) }
+    ensures unstable { stable name_s both_committed.batches ≡ 0 }
+    ensures marker { answer_of (mark Batches) both_committed ≡ Ok (tag_s 1, true) }
+    ensures stable { stable name_s (behind (mark Batches) both_committed).batches ≡ 2 }
+    ensures record_ { taken name_s 1 (behind (mark Batches) both_committed).batches ≡ Some (1, codes "0-1") }
+    ensures offset { answer_of (mark Offsets) both_committed ≡ Ok (tag_s 1, true) }
 {}
 
 /// A sink's task hands out what is stable, and stores how far it came.
@@ -60,6 +60,15 @@ pub fn config_log_keeps_the_last_of_each_key()
         (2 ∷ 3 ∷ []) ∷ (6 ∷ []) ∷ (7 ∷ []) ∷ (8 ∷ []) ∷ (9 ∷ []) ∷ [] }
     ensures waiting { let frames = (task_config_s 0 0 ∷ []) ∷ (task_config_s 1 0 ∷ []) ∷ [] in
         answer_of (compact Config) (with_frames frames) ≡ Ok (2, 2) }
+{}
+
+/// A compaction leaves keys and values as they are spelled: of two target states the last one stays, with the bytes that
+/// it had when the log was opened.
+pub fn compaction_leaves_spellings_as_they_are()
+    ensures counts { answer_of (compact Config) opened_older ≡ Ok (2, 1) }
+    ensures stays { (behind (compact Config) opened_older).config.frames ≡ (record older_target { offset = 1 } ∷ []) ∷ [] }
+    ensures bytes { config_length opened_older ≡ 158 }
+    ensures bytes_then { config_length (behind (compact Config) opened_older) ≡ 92 }
 {}
 
 /// An offset goes once a later one of its part is committed and marked, and its marker goes with it.

@@ -7,7 +7,7 @@ returns c = record {
   read = record { config = tt; offsets = tt; status = tt; txn = tt; batches = tt };
   allowed = (tt, (tt, (tt, (tt, (tt, tt)))));
   safe = (tt, (tt, (tt, (tt, (tt, tt)))));
-  holds = record { config = tt; offsets = refl; status = tt; txn = refl; batches = refl };
+  holds = record { config = refl; offsets = refl; status = refl; txn = refl; batches = refl };
   opened = record {
     configs = refl;
     statuses = refl;
