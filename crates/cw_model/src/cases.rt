@@ -1,5 +1,5 @@
 //! Worked cases of fencing: the states are built by hand, and each event is computed.
-ghost use Rattle.std.specs.Prelude.{◌≡◌, ◌∷◌, [], None};
+ghost use Rattle.std.specs.Prelude.{◌≡◌, None};
 ghost use Rattle.cw_model.specs.declared.fault.WorldFault.{WorldFault};
 ghost use Rattle.cw_model.specs.declared.instance.InstancePhase.{InstancePhase};
 ghost use Rattle.cw_model.specs.Lookups.{row_of};

@@ -12,6 +12,7 @@ mod cases;
 mod fault;
 mod instance;
 mod judged;
+mod opening;
 mod rebalances;
 mod refusals;
 mod reports;
@@ -37,6 +38,7 @@ pub use judged::{
     outrun_leader_loses_its_lead, shared_connector_is_not_disjoint, started_task_commits,
     story_ends_done, story_ends_quiet, unreadable_body_is_the_first_harm,
 };
+pub use opening::{compaction_lengthens_no_log, stored_logs_stand_for_one_state};
 pub use rebalances::{
     clock_never_goes_back, lost_task_waits_through_the_delay, rebalance_revokes_before_it_gives,
 };

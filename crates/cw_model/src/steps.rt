@@ -1,5 +1,5 @@
 //! Worked cases of the steps of tasks and of a script's producers: each event is computed, down to the bytes of its frame.
-ghost use Rattle.std.specs.Prelude.{◌≡◌, ◌∷◌, [], ℕ, Some, None, Ok, true, false, codes, drop};
+ghost use Rattle.std.specs.Prelude.{◌≡◌, ◌∷◌, [], Some, Ok, true, false, codes, drop};
 ghost use Rattle.cw_types.specs.declared.logs.LogName.TheVariants.{Config, Offsets, Batches};
 ghost use Rattle.cw_txn.specs.History.{end_of};
 ghost use Rattle.cw_data.specs.Log.{stable, taken};
