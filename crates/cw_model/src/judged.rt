@@ -6,6 +6,7 @@ ghost use Rattle.cw_model.specs.declared.tick.Tick.{Tick};
 ghost use Rattle.cw_model.specs.State.{Setting};
 ghost use Rattle.cw_model.specs.Committed.{committed_records};
 ghost use Rattle.cw_model.specs.Safe.{IsSafe, IsDisjoint, IsFenced, IsBacked};
+ghost use Rattle.cw_model.specs.Facts.{WorldFacts, ProducerFacts, ShapeFacts};
 ghost use Rattle.cw_model.specs.StandsFor.{StandFor, IsFirstHarm};
 ghost use Rattle.cw_model.specs.Tick.{tick};
 ghost use Rattle.cw_model.specs.Quiet.{IsQuiet, IsDoneFor};
@@ -14,6 +15,13 @@ ghost use Rattle.cw_model.specs.WorkedCases.{empty_cluster, overtaken, doubled, 
 /// Where nothing was ever written, the cluster is safe, whatever its feeds.
 pub fn empty_cluster_is_safe()
     ensures { (setting : Setting) → IsSafe setting empty_cluster }
+{}
+
+/// It also meets the facts that keep a cluster safe.
+pub fn empty_cluster_meets_the_facts()
+    ensures world { WorldFacts empty_cluster }
+    ensures producers { (setting : Setting) → ProducerFacts setting empty_cluster }
+    ensures shapes { ShapeFacts empty_cluster }
 {}
 
 /// A task of an older set that commits behind a standing fence breaks what fences promise (KIP-618).

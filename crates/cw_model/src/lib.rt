@@ -32,10 +32,11 @@ pub use fault::WorldFault;
 pub use instance::{Cut, Instance, InstancePhase, Trace};
 pub use judged::{
     commit_without_batch_is_not_backed, committed_records_are_the_lines, created_connector_starts,
-    deaf_worker_is_idle, empty_cluster_is_safe, empty_files_stand_for_the_empty_cluster,
-    first_worker_leads, killed_worker_is_dead, new_worker_joins, older_commit_is_not_fenced,
-    outrun_leader_loses_its_lead, shared_connector_is_not_disjoint, started_task_commits,
-    story_ends_done, story_ends_quiet, unreadable_body_is_the_first_harm,
+    deaf_worker_is_idle, empty_cluster_is_safe, empty_cluster_meets_the_facts,
+    empty_files_stand_for_the_empty_cluster, first_worker_leads, killed_worker_is_dead,
+    new_worker_joins, older_commit_is_not_fenced, outrun_leader_loses_its_lead,
+    shared_connector_is_not_disjoint, started_task_commits, story_ends_done, story_ends_quiet,
+    unreadable_body_is_the_first_harm,
 };
 pub use rebalances::{lost_task_waits_through_the_delay, rebalance_revokes_before_it_gives};
 pub use refusals::{

@@ -1,0 +1,65 @@
+use Rattle.std.proofs.Common.{◌≡◌, ◌<◌, ℕ, Option, Some, None, true, false, refl, arith}
+use Rattle.std.specs.List.{IsDistinct}
+use Rattle.cw_types.specs.declared.ids.TaskId.{TaskId}
+use Rattle.cw_group.specs.declared.member.Member.{Member}
+use Rattle.cw_model.specs.Facts.{IsOfTask, WorldFacts, ProducerFacts, ShapeFacts}
+use Rattle.cw_model.specs.State.{Setting}
+use Rattle.cw_model.specs.WorkedCases.{empty_cluster}
+use Rattle.cw_model.proofs.judged.empty_cluster_meets_the_facts.Goals as goal
+
+-- false isn't true
+unlike : false ≡ true → ⊥
+unlike same = cc
+
+-- there is no member
+no_member : (member : Member) (none : Option Member) → none ≡ None → none ≡ Some member → ⊥
+no_member member none is_none is_one = cc
+
+-- there is no instance
+no_task : (n : ℕ) (id : TaskId) → IsOfTask empty_cluster n id → ⊥
+no_task n id is_task = let within : n < 0 = is_task.within in omega arith
+
+world : WorldFacts empty_cluster
+unfolding IsDistinct
+world = record {
+  disjoint = λ v w x other v_is w_is held. refl;
+  backed = record { legal = tt; batches = tt };
+  rising = tt;
+  apart = tt;
+  held = λ w claim claims x there. absurd (unlike there);
+  assigned = λ w claim claims x there. absurd (unlike there);
+  known = λ w member there. absurd (no_member member None refl there);
+  within = λ planned. tt;
+  once = λ planned. tt;
+  told = λ planned w leader known is_stable. absurd (unlike known);
+  all_given = λ planned idle x there. absurd (unlike there);
+}
+
+producers : (setting : Setting) → ProducerFacts setting empty_cluster
+producers setting = record {
+  generation = λ n id unfenced. absurd (unlike unfenced.verified);
+  counted = λ n id unfenced. absurd (unlike unfenced.verified);
+  positions = λ n id unfenced fetched. absurd (unlike unfenced.verified);
+  apart = λ m n a b other unfenced. absurd (unlike unfenced.verified);
+  parts = λ n id newest. absurd (no_task n id newest.is_task);
+  one_batch = λ n id epoch unfenced. absurd (unlike unfenced.verified);
+  fencing = λ w n fencing id is_fencing unfenced. absurd (unlike unfenced.verified);
+  not_ahead = λ n id newest. absurd (no_task n id newest.is_task);
+  apart_epochs = λ m n id epoch other writes. absurd (no_task m id writes.is_task);
+  known_epochs = λ n id epoch writes. absurd (no_task n id writes.is_task);
+  unused = λ n id epoch writes. absurd (no_task n id writes.is_task);
+  unused_number = λ n id epoch writes. absurd (no_task n id writes.is_task);
+  uncommitted = λ n id epoch writes. absurd (no_task n id writes.is_task);
+  no_later_batch = λ n id epoch writes. absurd (no_task n id writes.is_task);
+}
+
+shapes : ShapeFacts empty_cluster
+shapes = record {
+  prefixes = tt;
+  shaped = tt;
+  waiting = λ other w member there. absurd (no_member member None refl there);
+  all_joined = λ closed. tt;
+}
+
+pub returns : goal.returns
+returns c = record { world = world; producers = producers; shapes = shapes }
