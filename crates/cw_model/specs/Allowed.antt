@@ -33,6 +33,7 @@ EachFrom P before (x ∷ xs) = P before x × EachFrom P (before ++ x ∷ []) xs
 abbrev pub config_in : Applied → Option ConfigRecord
 config_in a = record_of a.offset a.stamp a.key a.value
 
+-- the records of frames, one behind the other
 abbrev pub configs_in : List (List Applied) → List ConfigRecord
 configs_in frames = filter_map config_in (flat_map (λ frame. frame) frames)
 
@@ -69,15 +70,17 @@ pub record IsAllowedMark (entries : List Entry) (there marked : List Tag) (tag :
 
 -- ---- the offset log
 
--- the records, the transactions and the marked transactions of the offset log
+-- the records of an entry of the offset log
 abbrev pub offset_records : OffsetEntry → List Applied
 offset_records (offset.Records tag records) = records
 offset_records (offset.Mark mark) = []
 
+-- the transaction of an entry's records
 abbrev pub offset_tag : OffsetEntry → Option Tag
 offset_tag (offset.Records tag records) = Some tag
 offset_tag (offset.Mark mark) = None
 
+-- the transaction that an entry marks
 abbrev pub offset_mark : OffsetEntry → Option Tag
 offset_mark (offset.Records tag records) = None
 offset_mark (offset.Mark mark) = Some mark.tag

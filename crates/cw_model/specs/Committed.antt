@@ -25,11 +25,12 @@ is_task Lead = false
 is_task (Task id) = true
 is_task (Raw n) = false
 
--- the batches of the data log
+-- the batch that an entry of the data log is
 abbrev pub batch_in : DataEntry → Option Batch
 batch_in (InBatch batch) = Some batch
 batch_in (Mark tag committed) = None
 
+-- the batches of the data log
 abbrev pub batches_of : List DataEntry → List Batch
 batches_of log = filter_map batch_in log
 

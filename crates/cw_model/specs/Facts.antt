@@ -49,10 +49,11 @@ pub record Claims {J : Type 0} (s : Cluster J) (w : ℕ) (claim : List Item) : T
   pub current : is_member w s ≡ true
   pub is_claim : member.claim ≡ claim
 
--- all that the shares of a plan keep, newly give and take away, one behind the other
+-- all that a share of a plan keeps, newly gives and takes away
 abbrev pub share_items : Share → List Item
 share_items share = (share.kept ++ share.fresh) ++ share.revoked
 
+-- the same of all members
 abbrev pub shared_items : List Member → List Item
 shared_items members = flat_map (λ m. share_items m.share) members
 
@@ -168,15 +169,17 @@ pub record IsNewest {J : Type 0} (s : Cluster J) (n : ℕ) (id : TaskId) : Type 
   pub is_task : IsOfTask s n id
   pub newest : generation_of id.connector s.configs ≡ Some (instance_of n s).generation
 
--- the transactions under which batches stand in the data log, and those that are committed
+-- the transactions under which batches stand in the data log
 abbrev pub batch_tags : {J : Type 0} → Cluster J → List Tag
 batch_tags s = map (λ batch. batch.tag) (batches_of s.batches)
 
+-- the transaction that an entry commits
 abbrev pub commit_tag : Entry → Option Tag
 commit_tag (Bump tid) = None
 commit_tag (Commit tag generation spans) = Some tag
 commit_tag (Set tid epoch list) = None
 
+-- the transactions that are committed
 abbrev pub commit_tags : {J : Type 0} → Cluster J → List Tag
 commit_tags s = filter_map commit_tag s.entries
 

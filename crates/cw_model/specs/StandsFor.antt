@@ -67,6 +67,7 @@ entries_in frames = joined frames.txn
 abbrev pub AreReadAs : {A : Type 0} → (Unread → Read A) → List (List ℕ) → List A → Type 0
 AreReadAs at bodies frames = AllZip (λ body frame. body_at at body ≡ Some frame) bodies frames
 
+-- the bodies of all logs are read as these
 pub record AreRead (bodies : Bodies) (frames : Frames) : Type 0 where
   pub config : AreReadAs records_at bodies.config frames.config
   pub offsets : AreReadAs stored_at bodies.offsets frames.offsets
@@ -114,9 +115,11 @@ pub record IsFirstOf (judge : LogName → Judgement) (log : LogName) (at : ℕ) 
 
 -- ---- first each body is read
 
+-- a body that can be read, whatever stands before it
 abbrev pub IsReadable : {A : Type 0} → (Unread → Read A) → List (List ℕ) → List ℕ → Type 0
 IsReadable at before body = IsSome (body_at at body)
 
+-- the bodies of a log, as they are read
 abbrev pub reading_of : Bodies → LogName → Judgement
 reading_of bodies Config = judged (IsReadable records_at) bodies.config
 reading_of bodies Offsets = judged (IsReadable stored_at) bodies.offsets
@@ -131,6 +134,7 @@ abbrev pub IsAllowedFrame : List ConfigRecord → List Applied → Type 0
 IsAllowedFrame before [] = ⊤
 IsAllowedFrame before (a ∷ frame) = IsSomeAnd (config_in a) (λ r. IsAllowedConfig before r × IsAllowedFrame (before ++ r ∷ []) frame)
 
+-- the frames of a log, as each is allowed at its place
 abbrev pub allowing_of : Frames → LogName → Judgement
 allowing_of frames Config = judged (λ before frame. IsAllowedFrame (configs_in before) frame) frames.config
 allowing_of frames Offsets = judged (IsAllowedStored (entries_in frames)) frames.offsets
@@ -162,6 +166,7 @@ pub record IsSafeEntry (records : List ConfigRecord) (log : List DataEntry) (bef
 abbrev pub AreStamped : List Entry → List Applied → Type 0
 AreStamped entries records = AllByRecursion (λ a. a.stamp ≤ length entries) records
 
+-- the frames of a log, as they are safe
 abbrev pub safety_of : Frames → LogName → Judgement
 safety_of frames Config = judged (λ before frame. AreStamped (entries_in frames) frame) frames.config
 safety_of frames Offsets = judged (λ before frame. ⊤) frames.offsets
@@ -197,11 +202,12 @@ IsFirstHarm bodies log at Unsafe = IsFirstUnsafe bodies log at
 
 -- ---- the state
 
--- the status that fields are
+-- the status that fields are, with their stamp
 abbrev pub stamped_as : Applied → Result (Item × StatusValue) KeyFault → Option StampedStatus
 stamped_as a (Ok read) = Some (record { stamp = a.stamp; status = record { offset = a.offset; item = read.0; value = read.1 } })
 stamped_as a (Err fault) = None
 
+-- the status that fields are, where they have a value
 abbrev pub status_in : Applied → Option StampedStatus
 status_in a = option_and_then (λ text. stamped_as a (status_of a.key text)) a.value
 

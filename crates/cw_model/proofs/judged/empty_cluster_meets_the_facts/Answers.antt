@@ -12,8 +12,8 @@ unlike : false ≡ true → ⊥
 unlike same = cc
 
 -- there is no member
-no_member : (member : Member) (none : Option Member) → none ≡ None → none ≡ Some member → ⊥
-no_member member none is_none is_one = cc
+no_member : (member : Member) (found : Option Member) → found ≡ None → found ≡ Some member → ⊥
+no_member member found is_none is_one = cc
 
 -- there is no instance
 no_task : (n : ℕ) (id : TaskId) → IsOfTask empty_cluster n id → ⊥
