@@ -1,1 +1,3 @@
+mod EmptyCluster
+mod LeadersRefusals
 mod Lines

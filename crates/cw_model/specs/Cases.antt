@@ -78,7 +78,7 @@ empty_cluster = record {
 
 -- a group without feeds, whose lost members are waited for 300 milliseconds
 abbrev pub small_setting : Setting
-small_setting = record { group = []; delay = 300; feeds = [] }
+small_setting = record { group = []; delay = 300; feeds = []; agreed = true }
 
 -- the state behind an event
 abbrev pub behind : {A : Type 0} → (Small → Answer ℕ A) → Small → Small

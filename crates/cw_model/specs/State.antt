@@ -1,7 +1,7 @@
 -- The state of the whole cluster, as plain lists: the logs, the group, the workers and what they run, as Kafka Connect's
 -- distributed mode has them (Connect's config, offset and status topics; KIP-415, KIP-618). The data log and the transaction
 -- list stand for Kafka's topics and its transaction coordinator.
-use Rattle.std.specs.Prelude.{ℕ, List, Option}
+use Rattle.std.specs.Prelude.{ℕ, Bool, List, Option}
 use Rattle.cw_types.specs.declared.ids.Item.{Item}
 use Rattle.cw_types.specs.declared.logs.DiskName.{DiskName}
 use Rattle.cw_txn.specs.declared.entry.Entry.{Entry}
@@ -20,6 +20,8 @@ pub record Setting : Type 0 where
   pub group : List ℕ
   pub delay : ℕ
   pub feeds : Files
+  -- whether the feeds agreed with what was committed when the logs were opened
+  pub agreed : Bool
 
 -- a log on two sides, of which one is chosen: what each frame of that side holds, and its number
 pub record Paired (A : Type 0) : Type 0 where

@@ -160,7 +160,7 @@ orders =
 
 -- a group with that feed
 abbrev pub setting : Setting
-setting = record { group = codes "connect-cluster"; delay = 300000; feeds = (codes "orders", orders) ∷ [] }
+setting = record { group = codes "connect-cluster"; delay = 300000; feeds = (codes "orders", orders) ∷ []; agreed = true }
 
 -- its config, as a user creates it
 abbrev pub properties : Properties
@@ -380,3 +380,15 @@ committed = record started {
 -- the connector was started, and a later leader claimed
 abbrev pub outrun : Case
 outrun = let s = (plays (Create ∷ Read ∷ ticks 5) led).1 in record s { txn = s.txn ++ (Bump Lead ∷ []) ∷ []; entries = s.entries ++ Bump Lead ∷ [] }
+
+-- ---- a task's cut begins elsewhere than its batch
+
+-- the task, while its transaction is open, with a cut that begins behind the first line
+abbrev pub shifted_cut : Instance
+shifted_cut = record task_instance {
+  phase = phase.Produced;
+  epoch = Some first_epoch;
+  positions = 0 ∷ [];
+  last = Some 0;
+  cut = Some (record { turn = 0; from = 8; to = 96 });
+}

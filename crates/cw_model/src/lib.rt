@@ -35,8 +35,8 @@ pub use judged::{
     deaf_worker_is_idle, empty_cluster_is_safe, empty_cluster_meets_the_facts,
     empty_files_stand_for_the_empty_cluster, first_worker_leads, killed_worker_is_dead,
     new_worker_joins, older_commit_is_not_fenced, outrun_leader_loses_its_lead,
-    shared_connector_is_not_disjoint, started_task_commits, story_ends_done, story_ends_quiet,
-    unreadable_body_is_the_first_harm,
+    shared_connector_is_not_disjoint, shifted_cut_has_no_batch, started_task_commits,
+    story_ends_done, story_ends_quiet, story_meets_the_facts, unreadable_body_is_the_first_harm,
 };
 pub use rebalances::{lost_task_waits_through_the_delay, rebalance_revokes_before_it_gives};
 pub use refusals::{
