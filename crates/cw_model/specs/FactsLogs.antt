@@ -52,12 +52,12 @@ pub record ConfigFacts (standing whole : List ConfigRecord) (entries : List Entr
   pub allowed : AreAllowedConfigs [] whole
   -- no record was written when the transaction list was longer than it is: `append_fence` keeps it, and a fence's mark lies within the list by it
   pub stamped : AllByRecursion (λ r. r.stamp ≤ length entries) whole
-  -- `compact` keeps what is looked up
+  -- what stands says what the whole list says: `compact` drops nothing that is looked up, and an appended record is then allowed behind what stands, too
   pub same : SaysTheSame standing whole
-  -- it makes nothing up, and leaves the rest in such an order that a reopening meets no harm
+  -- what stands was written, and each record is allowed behind those before it: a reopening needs it, and `compact` keeps it
   pub among : AllByRecursion (Contains whole) standing
   pub standing_allowed : AreAllowedConfigs [] standing
-  -- and it leaves no fence without the commit for which that stands, unless without any: what stands is fenced where the whole list is
+  -- a fence that stands with a commit before it stands for that one in the whole list, too: a reopening needs it, since `compact` may drop the commit
   pub fences : (name : List ℕ) (generation mark : ℕ) → StandingFence standing name generation mark → StandingFence whole name generation mark
 
 -- ---- the status log

@@ -120,7 +120,7 @@ pub record IsSoundInstance {J : Type 0} (s : Cluster J) (i : Instance) : Type 0 
   pub of_item : IsOfItem s.configs i.item i
   -- its generation is that of a record which is there: `append_config` needs it, so that a new commit's generation is no instance's
   pub generation : i.generation < end_of s.configs
-  -- a source's task produces, and a sink's delivers: `commit` and `put_sink` need it, since no source's part is set, and no sink's committed
+  -- a source's task produces, and a sink's delivers: `commit` needs it, which is of a source's parts alone, and `put_sink`, which is of a sink's
   pub source : has_open_transaction i.phase ≡ true → is_source i ≡ true
   pub sink : i.phase ≡ phase.Delivered → is_sink i ≡ true
   -- it has its epoch from `init` on: whatever it writes, it writes as a producer
@@ -131,7 +131,7 @@ pub record IsSoundInstance {J : Type 0} (s : Cluster J) (i : Instance) : Type 0 
   pub cut : has_cut i.phase ≡ true → IsSomeAnd i.cut (λ cut. cut.turn < length (parts_of i))
   -- what a sink handed out goes on from its position: `put_sink` needs it, which stores how far that came
   pub delivered : i.phase ≡ phase.Delivered → IsSomeAnd i.cut (HandsOut i)
-  -- it has committed no more transactions than there are entries: `commit` needs it, since numbers stop rising at the greatest one. A full log has fewer
+  -- it has committed no more transactions than there are entries: `commit` needs it, since a number stays at the greatest one, and a full log has fewer entries
   pub number : i.number ≤ length s.entries
 
 -- the facts of all rows and instances
