@@ -1,3 +1,5 @@
+mod EmptyCluster
+mod LeadersRefusals
 mod Lines
 mod Shorter
 mod Stored

@@ -34,7 +34,7 @@ use Rattle.cw_offset.specs.declared.body.OffsetEntry.TheVariants.{Records, Mark}
 use Rattle.cw_model.specs.declared.instance.Instance.{Instance}
 use Rattle.cw_model.specs.declared.instance.Cut.{Cut}
 use Rattle.cw_model.specs.declared.instance.InstancePhase.{InstancePhase}
-use Rattle.cw_model.specs.declared.instance.InstancePhase.TheVariants.{Polling, Inited}
+use Rattle.cw_model.specs.declared.instance.InstancePhase.TheVariants.{Polling, Inited, Verified}
 use Rattle.cw_types.specs.declared.logs.LogName.TheVariants.{Batches}
 use Rattle.cw_model.specs.EventsSources.{produce, put_offsets, commit}
 use Rattle.cw_model.specs.EventsSinks.{deliver, put_sink}
@@ -326,6 +326,10 @@ twice_committed = record (with_list (Bump (tid_s 0) ∷ Commit (tag_s 1) 1 (span
     side = 1;
   };
 }
+
+-- a later instance of the task is verified behind these commits
+abbrev pub verified_later : Small
+verified_later = record twice_committed { instances = record (instance_s Verified 1) { positions = []; last = None; cut = None } ∷ [] }
 
 -- then that worker claims the lead
 abbrev pub led_by_another : Small

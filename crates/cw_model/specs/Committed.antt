@@ -23,11 +23,12 @@ use Rattle.cw_model.specs.Lookups.{task_connector}
 abbrev pub is_task : Tid → Bool
 is_task tid = is_some (task_connector tid)
 
--- the batches of the data log
+-- the batch that an entry of the data log is
 abbrev pub batch_in : DataEntry → Option Batch
 batch_in (InBatch batch) = Some batch
 batch_in (Mark tag committed) = None
 
+-- the batches of the data log
 abbrev pub batches_of : List DataEntry → List Batch
 batches_of log = filter_map batch_in log
 

@@ -10,6 +10,10 @@ pub mod Committed
 pub mod Safe
 pub mod Allowed
 pub mod StandsFor
+pub mod FactsGroup
+pub mod FactsProducers
+pub mod FactsRows
+pub mod FactsLogs
 pub mod Facts
 pub mod EventsWorkers
 pub mod EventsGroups

@@ -31,10 +31,11 @@ tasks_of name records = map (λ index. task_of (task_id name index) records) (ra
 abbrev pub deferred_tasks : List ℕ → ℕ → List ConfigRecord → List (Option Properties)
 deferred_tasks name count records = map (λ index. deferred_of (task_id name index) records) (range_with_len 0 count)
 
--- whether properties are the same, key by key
+-- whether two properties have the same key and value
 abbrev pub same_property : List ℕ × List ℕ → List ℕ × List ℕ → Bool
 same_property p q = bytes_eq p.0 q.0 && bytes_eq p.1 q.1
 
+-- whether two lists of properties are the same
 abbrev pub same_properties : Properties → Properties → Bool
 same_properties = pointwise same_property
 

@@ -1,7 +1,7 @@
 -- What a refused event leaves behind: the cluster as it was, but that a leader which another has followed gives up its epoch.
-use Rattle.std.specs.Prelude.{◌≡◌, ◌⊎◌, ℕ, Some, Err}
+use Rattle.std.specs.Prelude.{◌≡◌, ℕ, Some, Err}
 use Rattle.cw_types.specs.declared.logs.DiskName.{DiskName}
-use Rattle.cw_model.specs.declared.fault.WorldFault.TheVariants.{Closed}
+use Rattle.cw_model.specs.declared.fault.WorldFault.TheVariants.{Fenced, Closed}
 use Rattle.cw_model.specs.declared.fault.WorldFault.{WorldFault}
 use Rattle.cw_model.specs.State.{Cluster}
 use Rattle.cw_model.specs.Answers.{Answer, refused}
@@ -11,9 +11,14 @@ use Rattle.cw_model.specs.Updates.{changes_row, without_lead}
 abbrev pub Stays : {J A : Type 0} → Cluster J → Answer J A → Type 0
 Stays s answer = (fault : WorldFault) → answer.0 ≡ Err fault → answer.1 ≡ s
 
--- where it is refused, the cluster is as it was, or the worker has given up its lead epoch
-abbrev pub StaysUnlessLed : {J A : Type 0} → ℕ → Cluster J → Answer J A → Type 0
-StaysUnlessLed w s answer = (fault : WorldFault) → answer.0 ≡ Err fault → (answer.1 ≡ s) ⊎ (answer.1 ≡ changes_row w without_lead s)
+-- what a leader's refused event leaves: where another has claimed a later epoch, the worker gives up its own, and else nothing changes
+abbrev pub behind_refusal : {J : Type 0} → ℕ → WorldFault → Cluster J → Cluster J
+behind_refusal w (Fenced own current) s = changes_row w without_lead s
+behind_refusal w _ s = s
+
+-- where it is refused as fenced, the worker has lost its lead epoch and all else is as it was; where it is refused otherwise, the cluster is as it was
+abbrev pub StaysOrLosesLead : {J A : Type 0} → ℕ → Cluster J → Answer J A → Type 0
+StaysOrLosesLead w s answer = (fault : WorldFault) → answer.0 ≡ Err fault → answer.1 ≡ behind_refusal w fault s
 
 -- where a disk's fault has ended all writing, the answer tells it, and nothing changes
 abbrev pub IsClosedTo : {J A : Type 0} → Cluster J → Answer J A → Type 0

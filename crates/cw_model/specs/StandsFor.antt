@@ -61,6 +61,7 @@ entries_in frames = joined frames.txn
 abbrev pub AreReadAs : {A : Type 0} → (Unread → Read A) → List (List ℕ) → List A → Type 0
 AreReadAs at bodies frames = AllZip (λ body frame. body_at at body ≡ Some frame) bodies frames
 
+-- the bodies of all logs are read as these
 pub record AreRead (stored : Stored) (frames : Frames) : Type 0 where
   pub config : AreReadAs records_at stored.config.frames frames.config
   pub offsets : AreReadAs stored_at stored.offsets.frames frames.offsets
@@ -108,9 +109,11 @@ pub record IsFirstOf (judge : LogName → Judgement) (log : LogName) (at : ℕ) 
 
 -- ---- first each body is read
 
+-- a body that can be read, whatever stands before it
 abbrev pub IsReadable : {A : Type 0} → (Unread → Read A) → List (List ℕ) → List ℕ → Type 0
 IsReadable at before body = IsSome (body_at at body)
 
+-- the bodies of a log, as they are read
 abbrev pub reading_of : Stored → LogName → Judgement
 reading_of stored Config = judged (IsReadable records_at) stored.config.frames
 reading_of stored Offsets = judged (IsReadable stored_at) stored.offsets.frames
@@ -125,6 +128,7 @@ abbrev pub IsAllowedFrame : List ConfigRecord → List Applied → Type 0
 IsAllowedFrame before [] = ⊤
 IsAllowedFrame before (a ∷ frame) = IsSomeAnd (config_in a) (λ r. IsAllowedConfig before r × IsAllowedFrame (before ++ r ∷ []) frame)
 
+-- the frames of a log, as each is allowed at its place
 abbrev pub allowing_of : Frames → LogName → Judgement
 allowing_of frames Config = judged (λ before frame. IsAllowedFrame (configs_in before) frame) frames.config
 allowing_of frames Offsets = judged (IsAllowedStored (entries_in frames)) frames.offsets
@@ -156,6 +160,7 @@ pub record IsSafeEntry (records : List ConfigRecord) (log : List DataEntry) (bef
 abbrev pub AreStamped : List Entry → List Applied → Type 0
 AreStamped entries records = AllByRecursion (λ a. a.stamp ≤ length entries) records
 
+-- the frames of a log, as they are safe
 abbrev pub safety_of : Frames → LogName → Judgement
 safety_of frames Config = judged (λ before frame. AreStamped (entries_in frames) frame) frames.config
 safety_of frames Offsets = judged (λ before frame. ⊤) frames.offsets

@@ -54,6 +54,7 @@ abbrev pub told : {A : Type 0} → Result A WorldFault → (A → Tick) → Resu
 told (Ok x) tell = Ok (tell x)
 told (Err fault) tell = Err fault
 
+-- what the tick answers behind an event
 abbrev pub tells : {J A : Type 0} → Answer J A → (A → Cluster J → Tick) → Answer J Tick
 tells did tell = (told did.0 (λ x. tell x did.1), did.1)
 
@@ -62,19 +63,23 @@ abbrev pub or_lost : Result Tick WorldFault → Result Tick WorldFault
 or_lost (Err (Fenced own current)) = Ok (outcome.LostLead own current)
 or_lost answer = answer
 
+-- the same of a whole answer
 abbrev pub unless_lost : {J : Type 0} → Answer J Tick → Answer J Tick
 unless_lost did = (or_lost did.0, did.1)
 
 -- ---- read: the config log goes on behind what the worker has read
 
+-- whether the config log goes on behind what a worker has read
 abbrev pub read_applies : {J : Type 0} → ℕ → Cluster J → Bool
 read_applies w s = nat_lt (row_of w s).prefix (length s.configs)
 
+-- it reads up to the end: the tick tells how many records it has read
 abbrev pub reads : {J : Type 0} → ℕ → Cluster J → Answer J Tick
 reads w s = tells (read_config w s) (λ _ t. outcome.Read (row_of w t).prefix)
 
 -- ---- stop: the worker runs what it is not to run
 
+-- whether this is the newest generation
 abbrev pub is_generation : ℕ → Option ℕ → Bool
 is_generation generation None = false
 is_generation generation (Some newest) = newest == generation
@@ -104,20 +109,24 @@ deaf_stop_applies w s = first_running (is_outdated w s) w s
 abbrev pub number_at : {J : Type 0} → ℕ → Item → Cluster J → ℕ
 number_at w item s = unwrap_or (position (is_item_at w item) s.instances) 0
 
+-- that instance ends
 abbrev pub stops : {J : Type 0} → ℕ → Cluster J → Item → Answer J Tick
 stops w s item = tells (stop_item (number_at w item s) s) (λ _ _. outcome.Stop item)
 
 -- ---- join: a round is to begin, or has begun without the worker
 
+-- whether a round is planned
 abbrev pub is_planned : Phase → Bool
 is_planned Open = false
 is_planned Closed = false
 is_planned Planned = true
 
+-- whether a member is still to join
 abbrev pub has_not_joined : Option Member → Bool
 has_not_joined None = false
 has_not_joined (Some member) = not member.joined
 
+-- whether two lists have the same items, in one order
 abbrev pub same_items : List Item → List Item → Bool
 same_items = pointwise same_item
 
@@ -129,6 +138,7 @@ is_settled w s = is_planned s.group.phase && is_stable_in s.group.round (row_of 
 abbrev pub is_to_plan : {J : Type 0} → ℕ → Cluster J → Bool
 is_to_plan w s = leads w (row_of w s).phase && (not (same_items (configured_items (seen w s)) s.group.planned) || is_due s.moment s.delay)
 
+-- the group doesn't know the worker, or waits for it; or something is revoked from it (KIP-415), or it leads and has to plan anew
 abbrev pub join_applies : {J : Type 0} → ℕ → Cluster J → Bool
 join_applies w s =
     not (is_member w s) ||
@@ -136,37 +146,47 @@ join_applies w s =
     (is_settled w s && not (length (row_of w s).revoked == 0)) ||
     (is_settled w s && is_to_plan w s)
 
+-- it joins: the tick tells the round
 abbrev pub joins : {J : Type 0} → ℕ → Cluster J → Answer J Tick
 joins w s = tells (join w s) (λ round _. outcome.Join round)
 
 -- ---- close, plan, sync: the lowest member closes a round that all have joined and plans it, and each member is told
 
+-- whether a worker is the lowest member
 abbrev pub is_lowest : {J : Type 0} → ℕ → Cluster J → Bool
 is_lowest w s = option_map_or (λ lowest. lowest == w) (lowest_in s.group.members) false
 
+-- all have joined an open round, and the worker is the lowest
 abbrev pub close_applies : {J : Type 0} → ℕ → Cluster J → Bool
 close_applies w s = is_open s.group.phase && is_lowest w s && is_none (lowest_missing_in s.group.members)
 
+-- it closes the round
 abbrev pub closes : {J : Type 0} → ℕ → Cluster J → Answer J Tick
 closes w s = tells (close_round w s) (λ _ t. outcome.Close t.group.round)
 
+-- the round is closed, and the worker is the lowest
 abbrev pub plan_applies : {J : Type 0} → ℕ → Cluster J → Bool
 plan_applies w s = is_closed s.group.phase && is_lowest w s
 
+-- it plans the round
 abbrev pub plans : {J : Type 0} → ℕ → Cluster J → Answer J Tick
 plans w s = tells (store_plan w s) (λ _ t. outcome.Planned t.group.round)
 
+-- the round is planned, and the member wasn't told yet
 abbrev pub sync_applies : {J : Type 0} → ℕ → Cluster J → Bool
 sync_applies w s = is_planned s.group.phase && is_member w s && not (is_stable_in s.group.round (row_of w s).phase)
 
+-- it is told its assignment
 abbrev pub syncs : {J : Type 0} → ℕ → Cluster J → Answer J Tick
 syncs w s = tells (sync w s) (λ _ t. outcome.Sync t.group.round)
 
 -- ---- lead: the leader of the worker's assignment is itself, and it has no epoch
 
+-- whether a worker leads, and has no lead epoch
 abbrev pub lead_applies : {J : Type 0} → ℕ → Cluster J → Bool
 lead_applies w s = leads w (row_of w s).phase && is_none (row_of w s).lead
 
+-- it claims one: the tick tells it
 abbrev pub takes_lead : {J : Type 0} → ℕ → Cluster J → Answer J Tick
 takes_lead w s = tells (claim_lead w s) (λ epoch _. outcome.Lead epoch.0)
 
@@ -177,6 +197,7 @@ pub record Proposing : Type 0 where
   pub leader : ℕ
   pub connector : List ℕ
 
+-- the first connector that a ready worker runs and that needs other tasks
 abbrev pub propose_applies : {J : Type 0} → ℕ → Cluster J → Option Proposing
 propose_applies w s = option_map_or
     (λ leader. option_map (λ name. record { leader = leader; connector = name }) (find (needs_tasks (seen w s)) (filter_map connector_in (held w s)))) (ready w s) None
@@ -190,6 +211,7 @@ proposes w s p = let proposal = proposal_of p.connector (seen w s) in unless_los
 
 -- ---- fence: the leader has read of a connector whose older tasks aren't fenced
 
+-- the first connector whose older tasks a leader has to fence
 abbrev pub fence_applies : {J : Type 0} → ℕ → Cluster J → Option (List ℕ)
 fence_applies w s = if is_some (row_of w s).lead && is_stable (row_of w s).phase then slice_get (pending_connectors w s) 0 else None
 
@@ -202,39 +224,48 @@ fences w s name = let fencing = fencing_of w name s in unless_lost (
 
 -- ---- mark: the leader finds a transaction that has ended and isn't marked, in the data log before the offset log
 
+-- the log in which a leader has to mark a transaction
 abbrev pub mark_applies : {J : Type 0} → ℕ → Cluster J → Option LogName
 mark_applies w s =
     if is_none (row_of w s).lead then None else
     if is_some (unmarked_in Batches s) then Some Batches else
     if is_some (unmarked_in Offsets s) then Some Offsets else None
 
+-- it is marked: the tick tells which, and how it ended
 abbrev pub marks_ended : {J : Type 0} → Cluster J → LogName → Answer J Tick
 marks_ended s log = tells (mark log s) (λ did _. outcome.Mark log did.0 did.1)
 
 -- ---- start: an assigned item doesn't run; a task waits until its connector's older tasks are fenced
 
+-- whether an item is a task that may not start yet
 abbrev pub waits_for_fence : List ConfigRecord → Item → Bool
 waits_for_fence records (Connector name) = false
 waits_for_fence records (Task id) = is_pending id.connector records
 
+-- whether an item that is assigned to a worker is to be started
 abbrev pub may_start : {J : Type 0} → ℕ → Cluster J → Item → Bool
 may_start w s item = is_configured (seen w s) item && not (has (held w s) item) && not (waits_for_fence (seen w s) item)
 
+-- the first such item
 abbrev pub start_applies : {J : Type 0} → ℕ → Cluster J → Option Item
 start_applies w s = if is_stable (row_of w s).phase then find (may_start w s) (row_of w s).assigned else None
 
+-- it is started: the tick tells the instance's number
 abbrev pub starts : {J : Type 0} → ℕ → Cluster J → Item → Answer J Tick
 starts w s item = tells (start_item w item s) (λ number _. outcome.Start item number)
 
 -- ---- report: an instance's state isn't the one that was reported of it
 
+-- whether this is the state that was reported last
 abbrev pub is_reported : State → Option State → Bool
 is_reported state None = false
 is_reported state (Some reported) = bytes_eq (state_name state) (state_name reported)
 
+-- the first instance of a worker whose state isn't reported
 abbrev pub report_applies : {J : Type 0} → ℕ → Cluster J → Option Instance
 report_applies w s = find (λ i. is_at w i && not (is_reported (state_of (seen w s) i) i.reported)) s.instances
 
+-- its state is reported
 abbrev pub reports_state : {J : Type 0} → ℕ → Cluster J → Instance → Answer J Tick
 reports_state w s i = tells (put_status w i.item s) (λ _ _. outcome.Report i.item (state_of (seen w s) i))
 
@@ -270,6 +301,7 @@ abbrev pub first_rule : {J : Type 0} → List (Rule J) → Rule J
 first_rule [] = None
 first_rule (first ∷ later) = option_or first (first_rule later)
 
+-- the rule that a worker follows
 abbrev pub rule_for : {J : Type 0} → ℕ → Cluster J → Rule J
 rule_for w s = first_rule (if (row_of w s).hearing then rules w s else deaf_rules w s)
 

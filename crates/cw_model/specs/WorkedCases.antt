@@ -51,19 +51,21 @@ use Rattle.cw_model.specs.StandsFor.{Stored}
 use Rattle.cw_model.specs.Cases.{Small, empty_cluster}
 use Rattle.cw_model.specs.Bodies.{config_applied, status_applied}
 
--- a connector and its first task
+-- a connector
 abbrev pub name : List ℕ
 name = codes "a"
 
+-- its first task
 abbrev pub first_task : TaskId
 first_task = record { connector = name; index = 0 }
 
 -- ---- a task of an older set commits behind a fence
 
--- the commit of the newer set, and the fence that stands for it with mark 1
+-- the commit of the newer set
 abbrev pub commit_record : ConfigRecord
 commit_record = record { offset = 2; stamp = 0; key = key.Commit name; value = Some (value.Commit 1) }
 
+-- the fence that stands for it, with mark 1
 abbrev pub fence_record : ConfigRecord
 fence_record = record { offset = 3; stamp = 1; key = key.Fencing name; value = Some (value.Fencing 1) }
 
@@ -72,17 +74,21 @@ abbrev pub late_commit : Entry
 late_commit =
     Commit (record { number = 0; epoch = record { 0 = 1 }; tid = Task first_task }) 1 (record { part = Seq name 0; from = 0; to = 5 } ∷ [])
 
+-- the fence stands, and the older task commits behind it
 abbrev pub overtaken : Small
 overtaken = record empty_cluster { configs = commit_record ∷ fence_record ∷ []; entries = Bump (Task first_task) ∷ late_commit ∷ [] }
 
 -- ---- two members run one connector
 
+-- a worker that entered as this member
 abbrev pub member_row : ℕ → Row
 member_row incarnation = record new_row { incarnation = Some incarnation }
 
+-- the connector runs at a worker
 abbrev pub running_at : ℕ → Instance
 running_at w = record no_instance { worker = w; item = Connector name; phase = phase.Connector }
 
+-- two members run it
 abbrev pub doubled : Small
 doubled = record empty_cluster {
   group = record empty_group { made = 2; members = new_member 0 1 ∷ new_member 1 2 ∷ [] };
@@ -92,22 +98,27 @@ doubled = record empty_cluster {
 
 -- ---- a commit stands without its batch
 
+-- the commit stands alone
 abbrev pub unbacked : Small
 unbacked = record empty_cluster { entries = Bump (Task first_task) ∷ late_commit ∷ [] }
 
 -- ---- a worker was just made; one was killed, and one is deaf
 
+-- a worker that has done nothing
 abbrev pub one_worker : Small
 one_worker = record empty_cluster { rows = new_row ∷ [] }
 
+-- one that was killed
 abbrev pub killed_worker : Small
 killed_worker = record empty_cluster { rows = record new_row { live = false } ∷ [] }
 
+-- one that is deaf
 abbrev pub deaf_worker : Small
 deaf_worker = record empty_cluster { rows = record new_row { hearing = false } ∷ [] }
 
 -- ---- nothing is in the files; the config log's only body is one byte
 
+-- empty files
 abbrev pub no_bodies : Stored
 no_bodies = record {
   config = record { frames = []; side = 1 };
@@ -117,6 +128,7 @@ no_bodies = record {
   batches = [];
 }
 
+-- a config log with a body of one byte
 abbrev pub one_byte : Stored
 one_byte = record no_bodies { config = record { frames = (9 ∷ []) ∷ []; side = 1 } }
 
@@ -128,6 +140,7 @@ orders =
     codes "line-01" ++ 10 ∷ codes "line-02" ++ 10 ∷ codes "line-03" ++ 10 ∷ codes "line-04" ++ 10 ∷ codes "line-05" ++ 10 ∷ codes "line-06" ++ 10 ∷
     codes "line-07" ++ 10 ∷ codes "line-08" ++ 10 ∷ codes "line-09" ++ 10 ∷ codes "line-10" ++ 10 ∷ codes "line-11" ++ 10 ∷ codes "line-12" ++ 10 ∷ []
 
+-- a group with that feed
 abbrev pub setting : Setting
 setting = record { group = codes "connect-cluster"; delay = 300000; feeds = (codes "orders", orders) ∷ []; agreed = true }
 
@@ -137,6 +150,7 @@ properties =
     (codes "connector.class", codes "FileStreamSource") ∷ (codes "file", codes "orders") ∷ (codes "name", name) ∷
     (codes "tasks.max", codes "1") ∷ (codes "topic", codes "t") ∷ []
 
+-- the record that creates it
 abbrev pub created : List (ConfigKey × Option ConfigValue)
 created = (key.Connector name, Some (value.Connector properties)) ∷ []
 
@@ -178,6 +192,7 @@ abbrev pub text_of : {A : Type 0} → Result A WorldFault → (A → List ℕ) �
 text_of (Ok x) text = text x
 text_of (Err fault) text = codes "refused"
 
+-- the same of a whole answer
 abbrev pub telling : {A : Type 0} → Answer ℕ A → (A → List ℕ) → List ℕ × Small
 telling did text = (text_of did.0 text, did.1)
 
@@ -219,6 +234,7 @@ ending = Init ∷ Ticks ∷ Verify ∷ Ticks ∷ Fetch ∷ Produce ∷ PutOffset
 abbrev pub part : PartKey
 part = File name (codes "orders")
 
+-- what its task does
 abbrev pub task : TaskSpec
 task = record { class = FileStreamSource; parts = part ∷ []; topic = Some (codes "t"); file = None; batch = 2000; count = 0 }
 
@@ -264,10 +280,11 @@ all_configs =
     record { offset = 2; stamp = 1; key = key.Commit name; value = Some (value.Commit 1) } ∷
     record { offset = 3; stamp = 1; key = key.Fencing name; value = Some (value.Fencing 1) } ∷ []
 
--- the instances of the connector and of its task, as they are started
+-- the instance of the connector, as it is started
 abbrev pub connector_instance : Instance
 connector_instance = record no_instance { item = Connector name; phase = phase.Connector }
 
+-- the instance of its task
 abbrev pub task_instance : Instance
 task_instance = record no_instance { item = TaskItem first_task; phase = phase.New; generation = 2; task = Some task }
 
@@ -287,10 +304,11 @@ started = record led {
   instances = connector_instance ∷ task_instance ∷ [];
 }
 
--- the task's first transaction, and what is committed by it
+-- the task's first transaction
 abbrev pub first_tag : Tag
 first_tag = record { number = 0; epoch = first_epoch; tid = Task first_task }
 
+-- the transaction list behind that commit
 abbrev pub all_entries : List Entry
 all_entries = Bump Lead ∷ Bump (Task first_task) ∷ Commit first_tag 2 (record { part = part; from = 0; to = 96 } ∷ []) ∷ []
 
@@ -300,19 +318,22 @@ lines =
     codes "line-01" ∷ codes "line-02" ∷ codes "line-03" ∷ codes "line-04" ∷ codes "line-05" ∷ codes "line-06" ∷
     codes "line-07" ∷ codes "line-08" ∷ codes "line-09" ∷ codes "line-10" ∷ codes "line-11" ∷ codes "line-12" ∷ []
 
+-- the batch of that transaction
 abbrev pub batch : Batch
 batch = record { tag = first_tag; topic = codes "t"; part = part; from = 0; to = 96; values = lines }
 
+-- the offset that it stores
 abbrev pub offset_applied : Applied
 offset_applied = record { offset = 0; stamp = 2; key = part_text part; value = Some (offset_text part 96) }
 
--- both run
+-- a status that says that an item runs
 abbrev pub running_status : ℕ → Item → StampedStatus
 running_status offset item = record {
   stamp = 2;
   status = record { offset = offset; item = item; value = record { state = Running; trace = None; worker = 0; round = 3 } };
 }
 
+-- what was reported
 abbrev pub all_statuses : List StampedStatus
 all_statuses = running_status 0 (Connector name) ∷ running_status 1 (TaskItem first_task) ∷ []
 
@@ -338,5 +359,18 @@ committed = record started {
 
 -- ---- a later leader has claimed its epoch, before the connector that runs has its tasks
 
+-- the connector was started, and a later leader claimed
 abbrev pub outrun : Small
 outrun = let s = (plays (Create ∷ Read ∷ ticks 5) led).1 in record s { txn = s.txn ++ (Bump Lead ∷ []) ∷ []; entries = s.entries ++ Bump Lead ∷ [] }
+
+-- ---- a task's cut begins elsewhere than its batch
+
+-- the task, while its transaction is open, with a cut that begins behind the first line
+abbrev pub shifted_cut : Instance
+shifted_cut = record task_instance {
+  phase = phase.Produced;
+  epoch = Some first_epoch;
+  positions = 0 ∷ [];
+  last = Some 0;
+  cut = Some (record { turn = 0; from = 8; to = 96 });
+}

@@ -1,12 +1,12 @@
 //! Worked cases of fencing: the states are built by hand, and each event is computed.
-ghost use Rattle.std.specs.Prelude.{◌≡◌, None};
+ghost use Rattle.std.specs.Prelude.{◌≡◌, ◌∷◌, [], None};
 ghost use Rattle.cw_model.specs.declared.fault.WorldFault.{WorldFault};
 ghost use Rattle.cw_model.specs.declared.instance.InstancePhase.{InstancePhase};
-ghost use Rattle.cw_model.specs.Lookups.{row_of};
+ghost use Rattle.cw_model.specs.Lookups.{row_of, instance_of};
 ghost use Rattle.cw_model.specs.Answers.{refused};
 ghost use Rattle.cw_model.specs.EventsLeading.{claim_lead, append_config, fence_one, append_fence, MayFence, MayAppendFence};
-ghost use Rattle.cw_model.specs.EventsSources.{verify, commit};
-ghost use Rattle.cw_model.specs.Cases.{behind, answer_of, name_s, epoch, unfenced, nearly_fenced, wholly_fenced, polling, with_second_leader, led_by_another, stopping};
+ghost use Rattle.cw_model.specs.EventsSources.{verify, fetch, commit};
+ghost use Rattle.cw_model.specs.Cases.{behind, answer_of, name_s, epoch, unfenced, nearly_fenced, wholly_fenced, polling, with_second_leader, led_by_another, stopping, verified_later};
 
 /// A task of an older set has produced and offered; the leader fences it, and its commit is refused (KIP-618).
 pub fn zombie_commits_no_more_once_fenced()
@@ -39,4 +39,9 @@ pub fn new_task_goes_on_once_fenced()
     ensures may_write { MayAppendFence 0 name_s nearly_fenced }
     ensures offset { answer_of (append_fence 0 name_s) nearly_fenced ≡ Ok 4 }
     ensures verified { answer_of (verify 0) wholly_fenced ≡ Ok 3 }
+{}
+
+/// A later task goes on where the last commit ended.
+pub fn later_task_goes_on_where_the_last_commit_ended()
+    ensures { (instance_of 0 (behind (fetch 0) verified_later)).positions ≡ 3 ∷ [] }
 {}

@@ -4,17 +4,26 @@ ghost use Rattle.cw_types.specs.declared.logs.LogName.{LogName};
 ghost use Rattle.cw_log.specs.declared.fault.Harm.{Harm};
 ghost use Rattle.cw_model.specs.declared.tick.Tick.{Tick};
 ghost use Rattle.cw_model.specs.State.{Setting};
-ghost use Rattle.cw_model.specs.Committed.{committed_records};
+ghost use Rattle.cw_model.specs.Committed.{batches_of, committed_records};
 ghost use Rattle.cw_model.specs.Safe.{IsSafe, IsDisjoint, IsFenced, IsBacked};
+ghost use Rattle.cw_model.specs.FactsProducers.{HasItsBatch};
+ghost use Rattle.cw_model.specs.FactsRows.{RowFacts};
+ghost use Rattle.cw_model.specs.FactsLogs.{ConfigFacts};
+ghost use Rattle.cw_model.specs.Facts.{AreFacts};
 ghost use Rattle.cw_model.specs.StandsFor.{StandFor, IsFirstHarm};
 ghost use Rattle.cw_model.specs.Tick.{tick};
 ghost use Rattle.cw_model.specs.Quiet.{IsQuiet, IsDoneFor};
 ghost use Rattle.cw_model.specs.Cases.{empty_cluster};
-ghost use Rattle.cw_model.specs.WorkedCases.{overtaken, doubled, unbacked, one_worker, killed_worker, deaf_worker, no_bodies, one_byte, setting, name, part, plays, ticks, beginning, middle, ending, lines, led, started, committed, outrun};
+ghost use Rattle.cw_model.specs.WorkedCases.{overtaken, doubled, unbacked, one_worker, killed_worker, deaf_worker, no_bodies, one_byte, setting, name, part, plays, ticks, beginning, middle, ending, lines, led, started, committed, outrun, first_tag, shifted_cut};
 
 /// Where nothing was ever written, the cluster is safe, whatever its feeds.
 pub fn empty_cluster_is_safe()
     ensures { (setting : Setting) → IsSafe setting empty_cluster }
+{}
+
+/// It also meets the facts that keep a cluster safe.
+pub fn empty_cluster_meets_the_facts()
+    ensures { (setting : Setting) → AreFacts setting empty_cluster }
 {}
 
 /// A task of an older set that commits behind a standing fence breaks what fences promise (KIP-618).
@@ -30,6 +39,11 @@ pub fn shared_connector_is_not_disjoint()
 /// A commit whose batch doesn't stand in the data log isn't backed.
 pub fn commit_without_batch_is_not_backed()
     ensures { ¬ IsBacked unbacked }
+{}
+
+/// A task's cut that begins elsewhere than its batch isn't what it would commit.
+pub fn shifted_cut_has_no_batch()
+    ensures { ¬ HasItsBatch setting.feeds (batches_of committed.batches) first_tag shifted_cut }
 {}
 
 /// Empty files stand for the empty cluster.
@@ -91,6 +105,12 @@ pub fn committed_records_are_the_lines()
 /// Nothing is left to do: the cluster is quiet.
 pub fn story_ends_quiet()
     ensures { IsQuiet setting committed }
+{}
+
+/// The configs that were written, the rows and the instances are then as the facts that keep a cluster safe have them.
+pub fn story_meets_the_facts()
+    ensures configs { ConfigFacts committed.configs committed.configs committed.entries }
+    ensures rows { RowFacts committed }
 {}
 
 /// The connector has all that it asks for.

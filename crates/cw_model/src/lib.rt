@@ -26,17 +26,19 @@ pub use alterations::{
     offsets_are_altered_once_stopped, offsets_are_reset,
 };
 pub use cases::{
-    late_task_is_stale, new_task_goes_on_once_fenced, new_task_waits_for_its_fence,
-    old_leader_is_fenced_and_gives_up, zombie_commits_no_more_once_fenced,
+    late_task_is_stale, later_task_goes_on_where_the_last_commit_ended,
+    new_task_goes_on_once_fenced, new_task_waits_for_its_fence, old_leader_is_fenced_and_gives_up,
+    zombie_commits_no_more_once_fenced,
 };
 pub use fault::WorldFault;
 pub use instance::{Cut, Instance, InstancePhase, Trace};
 pub use judged::{
     commit_without_batch_is_not_backed, committed_records_are_the_lines, created_connector_starts,
-    deaf_worker_is_idle, empty_cluster_is_safe, empty_files_stand_for_the_empty_cluster,
-    first_worker_leads, killed_worker_is_dead, new_worker_joins, older_commit_is_not_fenced,
-    outrun_leader_loses_its_lead, shared_connector_is_not_disjoint, started_task_commits,
-    story_ends_done, story_ends_quiet, unreadable_body_is_the_first_harm,
+    deaf_worker_is_idle, empty_cluster_is_safe, empty_cluster_meets_the_facts,
+    empty_files_stand_for_the_empty_cluster, first_worker_leads, killed_worker_is_dead,
+    new_worker_joins, older_commit_is_not_fenced, outrun_leader_loses_its_lead,
+    shared_connector_is_not_disjoint, shifted_cut_has_no_batch, started_task_commits,
+    story_ends_done, story_ends_quiet, story_meets_the_facts, unreadable_body_is_the_first_harm,
 };
 pub use opening::{compaction_lengthens_no_log, stored_logs_stand_for_one_state};
 pub use rebalances::{

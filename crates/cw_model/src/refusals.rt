@@ -23,9 +23,9 @@ ghost use Rattle.cw_model.specs.EventsReports.{fail, put_status};
 ghost use Rattle.cw_model.specs.EventsMarking.{mark};
 ghost use Rattle.cw_model.specs.EventsCompaction.{compact};
 ghost use Rattle.cw_model.specs.EventsRaw.{raw_init, raw_commit};
-ghost use Rattle.cw_model.specs.Refusals.{Stays, StaysUnlessLed, IsClosedTo};
+ghost use Rattle.cw_model.specs.Refusals.{Stays, StaysOrLosesLead, IsClosedTo};
 
-/// A refused event leaves the cluster as it was; a leader that is fenced gives up its epoch.
+/// A refused event leaves the cluster as it was, but that a leader which is fenced gives up its epoch.
 pub fn refused_event_changes_nothing<J>()
     ensures spawn { (s : Cluster J) → Stays s (spawn s) }
     ensures kill { (s : Cluster J) (w : ℕ) → Stays s (kill w s) }
@@ -41,10 +41,10 @@ pub fn refused_event_changes_nothing<J>()
     ensures stop_item { (s : Cluster J) (i : ℕ) → Stays s (stop_item i s) }
     ensures restart { (s : Cluster J) (w : ℕ) (item : Item) → Stays s (restart w item s) }
     ensures claim_lead { (s : Cluster J) (w : ℕ) → Stays s (claim_lead w s) }
-    ensures append_config { (s : Cluster J) (w : ℕ) (records : List (ConfigKey × Option ConfigValue)) → StaysUnlessLed w s (append_config w records s) }
-    ensures fence_one { (s : Cluster J) (w : ℕ) (name : List ℕ) → StaysUnlessLed w s (fence_one w name s) }
-    ensures append_fence { (s : Cluster J) (w : ℕ) (name : List ℕ) → StaysUnlessLed w s (append_fence w name s) }
-    ensures set_offsets { (s : Cluster J) (w : ℕ) (name : List ℕ) (list : List SetOffset) → StaysUnlessLed w s (set_offsets w name list s) }
+    ensures append_config { (s : Cluster J) (w : ℕ) (records : List (ConfigKey × Option ConfigValue)) → StaysOrLosesLead w s (append_config w records s) }
+    ensures fence_one { (s : Cluster J) (w : ℕ) (name : List ℕ) → StaysOrLosesLead w s (fence_one w name s) }
+    ensures append_fence { (s : Cluster J) (w : ℕ) (name : List ℕ) → StaysOrLosesLead w s (append_fence w name s) }
+    ensures set_offsets { (s : Cluster J) (w : ℕ) (name : List ℕ) (list : List SetOffset) → StaysOrLosesLead w s (set_offsets w name list s) }
     ensures init { (s : Cluster J) (i : ℕ) → Stays s (init i s) }
     ensures verify { (s : Cluster J) (i : ℕ) → Stays s (verify i s) }
     ensures fetch { (s : Cluster J) (i : ℕ) → Stays s (fetch i s) }
