@@ -1,5 +1,6 @@
 pub mod SameLemmas
 pub mod RowLemmas
+pub mod CommitLemmas
 pub mod Walks
 pub mod Kept
 pub mod Equals
