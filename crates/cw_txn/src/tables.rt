@@ -1,7 +1,7 @@
 //! What the coordinator keeps of its list, so that no look-up walks it.
-ghost use Rattle.std.specs.Prelude.{◌≡◌, ◌<◌, ◌+◌, ◌^◌, ◌-◌, ◌++◌, ◌∷◌, [], IfOk, OnOk, IsSome, Some, All, List};
+ghost use Rattle.std.specs.Prelude.{◌≡◌, ◌<◌, ◌+◌, ◌^◌, ◌-◌, ◌++◌, ◌∷◌, ◌&&◌, [], IfOk, OnOk, IsSome, Some, All, List, is_some, if◌then◌else◌};
 ghost use Rattle.std.specs.List.{fold};
-ghost use Rattle.std.specs.BTreeMap.{get, BTreeMap};
+ghost use Rattle.std.specs.BTreeMap.{get, is_at, BTreeMap};
 ghost use Rattle.cw_types.specs.declared.ids.Tid.{Tid};
 ghost use Rattle.cw_types.specs.declared.ids.PartKey.{PartKey};
 ghost use Rattle.cw_txn.specs.declared.entry.Entry.{Entry};
@@ -110,8 +110,7 @@ impl Tables {
     {
         if let Entry::Commit { tag, spans, .. } = entry {
             self.committed.put(tag.copy()?)?;
-            make_span_parts(&mut self.parts, spans.as_slice())?;
-            move_ends(&mut self.parts, spans.as_slice());
+            put_ends(&mut self.parts, spans.as_slice())?;
             return Ok(());
         }
         self.make_rows(&EntryRef::of(entry))?;
@@ -140,7 +139,7 @@ impl Tables {
     }
 }
 
-ghost use Rattle.cw_txn.specs.Tables.{epoch_at, history_at, tid_order, is_of, HasPart};
+ghost use Rattle.cw_txn.specs.Tables.{epoch_at, history_at, tid_order, part_order, is_of, HasPart};
 ghost use Rattle.std.specs.Str.{bytes_eq};
 
 pub fn is_of(part: &PartKey, connector: &Name) -> bool
@@ -221,15 +220,51 @@ fn move_end(parts: &mut BTreeMap<PartKey, History>, span: &Span)
     ensures moved { (part : PartKey) → history_at parts.new part ≡ after_span part (history_at parts.old part) span.now }
     ensures kept { (q : PartKey) → HasPart parts.old q → HasPart parts.new q }
 {
-    let was = value_at(parts, &span.part, History::UNSET);
-    set_row(
-        parts,
-        &span.part,
-        History {
-            base: was.base,
-            end: Some(span.to),
-        },
-    );
+    let _ = has_moved(parts, span);
+}
+
+// Moves the end of a part that has a row, and says whether it has one.
+fn has_moved(parts: &mut BTreeMap<PartKey, History>, span: &Span) -> bool
+    ensures there { result ≡ is_some (get part_order parts.old span.now.part) }
+    ensures moved { (q : PartKey) → get part_order parts.new q ≡ (if result && is_at (part_order span.now.part) q then Some (record { base = (history_at parts.old span.now.part).base; end = Some span.now.to }) else get part_order parts.old q) }
+{
+    match parts.get_mut(&span.part) {
+        Some(row) => {
+            *row = ended(*row, span);
+            true
+        }
+        None => false,
+    }
+}
+
+// The end of a part moves to its span's, in its row or in a new one.
+fn put_end(parts: &mut BTreeMap<PartKey, History>, span: &Span) -> Result<(), AllocError>
+    ensures { OnOk result ((part : PartKey) → history_at parts.new part ≡ after_span part (history_at parts.old part) span.now) }
+{
+    if has_moved(parts, span) {
+        return Ok(());
+    }
+    parts.insert(span.part.copy()?, ended(History::UNSET, span))?;
+    Ok(())
+}
+
+// A part's history with its end at a span's.
+fn ended(history: History, span: &Span) -> History
+    ensures { result ≡ record { base = history.base; end = Some span.now.to } }
+{
+    History {
+        base: history.base,
+        end: Some(span.to),
+    }
+}
+
+fn put_ends(parts: &mut BTreeMap<PartKey, History>, spans: &[Span]) -> Result<(), AllocError>
+    ensures { OnOk result ((part : PartKey) → history_at parts.new part ≡ fold (after_span part) (history_at parts.old part) spans.now) }
+{
+    for span in spans {
+        put_end(parts, span)?;
+    }
+    Ok(())
 }
 
 fn move_ends(parts: &mut BTreeMap<PartKey, History>, spans: &[Span])
