@@ -6,7 +6,8 @@ use Rattle.cw_log.specs.Calls.{IsGated}
 use Rattle.cw_log.specs.Log.{field, IsBody, AreFrames, Begins, IsHead, StandsFor, BeforeOrAfter, places_from, bodies_at, length_of}
 use Rattle.std.specs.Prelude.{Vec, vec_len, vec_capacity}
 use Rattle.std.specs.declared.alloc.Global.{Global}
-use Rattle.cw_log.specs.Calls.{Reads}
+use Rattle.cw_log.specs.Calls.{Reads, IsAhead}
+use Rattle.cw_log.specs.declared.window.Window.{Window}
 use Rattle.cw_log.specs.State.{IsKept, IsRest, IsLog, HasRoom}
 use Rattle.cw_log.proofs.Frames.{length-field, frames_push, places_push, frames_length}
 use Rattle.cw_log.proofs.Opened.{bodies_are, front_is, head_is, gate_within, kept_front, kept_stands, bodies_front}
@@ -148,14 +149,15 @@ body_at gate places file i place b low is = (
 
 -- a log whose disk was read, with other room
 module _ {D : Type 0} (holds : D → Option (List ℕ)) (may_leave : D → List ℕ → Type 0) (moment : D → ℕ) (left_since : D → ℕ → List ℕ → Type 0) (count reserved : D → ℕ) where
-  pub log_read : (old new : D) (kind gate ready ready' : ℕ) (places places' : Vec Place Global) (tail tail' : Vec ℕ Global) (shut : Bool) → IsLog holds may_leave reserved old kind gate ready places tail shut
-      → Reads holds may_leave moment left_since count reserved old new → places'.items ≡ places.items → (0 < ready' → HasRoom reserved new gate ready' places' tail') → IsLog holds may_leave reserved new kind gate ready' places' tail' shut
-  log_read old new kind gate ready ready' places places' tail tail' shut log reads same room = record {
+  pub log_read : (old new : D) (kind gate ready ready' : ℕ) (places places' : Vec Place Global) (tail tail' : Vec ℕ Global) (ahead ahead' : Option Window) (shut : Bool) → IsLog holds may_leave reserved old kind gate ready places tail ahead shut
+      → Reads holds may_leave moment left_since count reserved old new → places'.items ≡ places.items → (0 < ready' → HasRoom reserved new gate ready' places' tail') → IsAhead (holds old) ahead' → IsLog holds may_leave reserved new kind gate ready' places' tail' ahead' shut
+  log_read old new kind gate ready ready' places places' tail tail' ahead ahead' shut log reads same room is_ahead = record {
     kept = λ file is. subst (λ (l : List Place). IsKept kind gate l file) (sym same) (log.kept file (sym reads.same ∙ is));
     rest = λ alive file is. rest_read gate file (may_leave old) (may_leave new) reads.fewer (log.rest alive file (sym reads.same ∙ is));
     low = log.low;
     high = log.high;
     room = room;
+    ahead_is = subst (λ (told : Option (List ℕ)). IsAhead told ahead') (sym reads.same) is_ahead;
   }
 
   pub room_read : (old new : D) (gate ready : ℕ) (places places' : Vec Place Global) (tail tail' : Vec ℕ Global) → HasRoom reserved old gate ready places tail → reserved old ≤ reserved new

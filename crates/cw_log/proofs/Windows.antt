@@ -5,7 +5,10 @@ use Rattle.std.proofs.lemmas.Nat.{be_bytes_4}
 use Rattle.std.specs.Int.{w32, to_be_bytes, from_be_bytes}
 use Rattle.cw_log.specs.declared.place.Frame.TheVariants.{Open}
 use Rattle.cw_log.specs.Log.{IsFrame}
-use Rattle.cw_log.specs.Calls.{Shows}
+use Rattle.cw_log.specs.Calls.{Shows, IsWindow, IsAhead}
+use Rattle.cw_log.specs.declared.window.Window.{Window}
+use Rattle.std.specs.Prelude.{Result, Ok, Err, IfOk, Option, Some}
+use Rattle.std.specs.declared.alloc.AllocError.{AllocError}
 
 pub shows_within : (five file bytes : List ℕ) (start at filled : ℕ) → length five ≡ 5 → start ≤ at → at - start + 5 ≤ filled → filled ≤ length bytes → take filled bytes ≡ take filled (drop start file)
     → Shows five (drop (at - start) (take filled bytes)) → Shows five (drop at file)
@@ -19,6 +22,20 @@ shows_within five file bytes start at filled size low high within same shows =
     let part_long : 5 ≤ length (take m (drop at file)) = omega (arith, length-take m (drop at file), rest_long, high) in
     take_all (length (drop at file)) five (omega arith) ∙ sym (take_all (length (take m (drop at file))) five (omega arith))
     ∙ subst (λ (l : List ℕ). take (length l) five ≡ take 5 l) part shows ∙ take-take 5 m (drop at file) (omega arith)
+
+-- a part of what a window shows
+pub part_within : (file bytes : List ℕ) (start from at size filled : ℕ) → start + from ≡ at → from + size ≤ filled → take filled bytes ≡ take filled (drop start file)
+    → take size (drop from (take filled bytes)) ≡ take size (drop at file)
+part_within file bytes start from at size filled place within same =
+    let m : ℕ = filled - from in
+    let there : drop from (drop start file) ≡ drop at file = drop-drop from start file ∙ ap (λ (n : ℕ). drop n file) (omega arith) in
+    let part : drop from (take filled bytes) ≡ take m (drop at file) = ap (drop from) (same ∙ ap (λ (n : ℕ). take n (drop start file)) (omega arith)) ∙ drop-take from m (drop start file) ∙ ap (take m) there in
+    ap (take size) part ∙ take-take size m (drop at file) (omega arith)
+
+-- a new window shows whatever file
+pub new_window : (made : Result Window AllocError) (told : Option (List ℕ)) → IfOk made (λ window. (file : List ℕ) → IsWindow file window) → IfOk made (λ window. window.filled ≤ length window.bytes.items) → IfOk made (λ window. IsAhead told (Some window))
+new_window (Ok window) told shows within = (λ file is. shows file, within)
+new_window (Err fault) told shows within = within
 
 -- five bytes over bytes of which there is one at least
 shown : (five bytes : List ℕ) → length five ≡ 5 → 5 ≤ length bytes → Shows five bytes → (first : ℕ) × (rest : List ℕ) × (bytes ≡ first ∷ rest) × (first ≡ get_or five 0 0) × (take 4 rest ≡ drop 1 five)

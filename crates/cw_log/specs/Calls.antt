@@ -1,5 +1,5 @@
 -- What a step of a log does to its disk.
-use Rattle.std.specs.Prelude.{◌≡◌, ◌≤◌, ◌⊎◌, ◌+◌, ℕ, List, ◌∷◌, ◌++◌, take, drop, length, Option}
+use Rattle.std.specs.Prelude.{◌≡◌, ◌≤◌, ◌⊎◌, ◌+◌, ℕ, List, ◌∷◌, ◌++◌, take, drop, length, Option, Some, None}
 use Rattle.cw_disk.specs.Disk.{Adds}
 use Rattle.cw_log.specs.declared.window.Window.{Window}
 
@@ -24,3 +24,8 @@ pub record IsWindow (file : List ℕ) (window : Window) : Type 0 where
   pub wide : 5 ≤ length window.bytes.items
   pub filled : window.filled ≤ length window.bytes.items
   pub shows : take window.filled window.bytes.items ≡ take window.filled (drop window.start file)
+
+-- what a log holds in memory of its file, if anything, is a window on it
+abbrev pub IsAhead : Option (List ℕ) → Option Window → Type 0
+IsAhead told None = Unit {0}
+IsAhead told (Some window) = ((file : List ℕ) → told ≡ Some file → IsWindow file window) × (window.filled ≤ length window.bytes.items)

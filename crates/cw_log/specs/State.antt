@@ -2,8 +2,10 @@
 use Rattle.std.specs.Prelude.{◌≡◌, ◌≤◌, ◌<◌, ◌+◌, ◌-◌, ◌^◌, ◌++◌, ◌∷◌, [], min, ℕ, List, Option, Some, Bool, false, length, take, vec_capacity, vec_len, Vec}
 use Rattle.std.specs.declared.alloc.Global.{Global}
 use Rattle.cw_disk.specs.Disk.{Only}
+use Rattle.cw_log.specs.Calls.{IsAhead}
 use Rattle.cw_log.specs.Log.{IsHead, Begins, StandsFor, bodies_at}
 use Rattle.cw_log.specs.declared.place.Place.{Place}
+use Rattle.cw_log.specs.declared.window.Window.{Window}
 use Rattle.cw_log.specs.declared.fault.AppendFault.{AppendFault}
 use Rattle.cw_log.specs.declared.fault.AppendFault.TheVariants.{Failed, Full, Shut, Memory}
 use Rattle.cw_log.specs.declared.fault.ReadFault.{ReadFault}
@@ -90,12 +92,13 @@ OnReadFault failed memory reads.Failed = failed
 OnReadFault failed memory reads.Memory = memory
 
 -- what a log keeps of itself
-pub record IsLog {D : Type 0} (holds : D → Option (List ℕ)) (may_leave : D → List ℕ → Type 0) (reserved : D → ℕ) (disk : D) (kind gate ready : ℕ) (places : Vec Place Global) (tail : Vec ℕ Global) (shut : Bool) : Type 0 where
+pub record IsLog {D : Type 0} (holds : D → Option (List ℕ)) (may_leave : D → List ℕ → Type 0) (reserved : D → ℕ) (disk : D) (kind gate ready : ℕ) (places : Vec Place Global) (tail : Vec ℕ Global) (ahead : Option Window) (shut : Bool) : Type 0 where
   pub kept : (file : List ℕ) → holds disk ≡ Some file → IsKept kind gate places.items file
   pub rest : shut ≡ false → (file : List ℕ) → holds disk ≡ Some file → IsRest gate (may_leave disk) file
   pub low : 16 ≤ gate
   pub high : gate + 1 < 2 ^ 64
   pub room : 0 < ready → HasRoom reserved disk gate ready places tail
+  pub ahead_is : IsAhead (holds disk) ahead
 
 -- one of these images stands for the list
 pub record StandsSince (kind : ℕ) (images : List ℕ → Type 0) (list : List (List ℕ)) : Type 0 where

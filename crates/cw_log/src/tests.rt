@@ -187,3 +187,26 @@ fn a_failed_append_shuts_the_log(rt: HostRuntime) -> Result<(), Fail> {
     assert_eq!(rt; log.failed(), Some((0, 2)));
     holds_just(&rt, &mut log, &ALL[..2])
 }
+
+#[test]
+fn bodies_are_read_behind_an_append_too(rt: HostRuntime) -> Result<(), Fail> {
+    let alloc = rt.alloc();
+    let disk = disk_of(alloc, TWO, u64::MAX)?;
+    let mut log = TopicLog::open_log(alloc, disk, LogName::Txn, 1000).map_err(|fault| fault.cause)?;
+    holds_just(&rt, &mut log, &ALL[..2])?;
+    assert_eq!(rt; add(&mut log, ALL[2]), Ok(2));
+    holds_just(&rt, &mut log, &ALL[..3])
+}
+
+#[test]
+fn a_long_body_is_read_between_short_ones(rt: HostRuntime) -> Result<(), Fail> {
+    let alloc = rt.alloc();
+    let long = vec![in alloc; 7u8; 70_000]?;
+    let mut bytes = TWO[..TWO.len() - 1].to_vec(alloc)?;
+    bytes.extend_from_slice(b"\x01\0\x01\x11\x70")?;
+    bytes.extend_from_slice(&long)?;
+    bytes.extend_from_slice(b"\x01\0\0\0\x02ab\0")?;
+    let disk = disk_of(alloc, &bytes, u64::MAX)?;
+    let mut log = TopicLog::open_log(alloc, disk, LogName::Txn, 1000).map_err(|fault| fault.cause)?;
+    holds_just(&rt, &mut log, &[b"xy", b"z", &long, b"ab"])
+}

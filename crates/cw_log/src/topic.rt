@@ -6,10 +6,11 @@ ghost use Rattle.cw_log.specs.Calls.{Reads};
 ghost use Rattle.cw_log.specs.Log.{StandsFor, StandAlike, BeforeOrAfter, IsDamaged, OnCause, kind_of, length_of};
 ghost use Rattle.cw_log.specs.State.{LogState, OnAppendFault, OnReadFault, OpensTo, IsSameLog, HasSameList, IsAppendable};
 
-use crate::calls::{prepare, read_part};
+use crate::calls::prepare;
 use crate::frame::{push_place, write_frame};
 use crate::open::opened;
-use crate::{AppendFault, OpenFault, Place, ReadFault};
+use crate::window::window_of;
+use crate::{AppendFault, OpenFault, Place, ReadFault, Window};
 use cw_disk::{Disk, Failed, Memory};
 use cw_types::LogName;
 use std::alloc::Global;
@@ -26,6 +27,8 @@ pub struct TopicLog<D: Disk> {
     places: Vec<Place>,
     gate: u64,
     tail: Vec<u8>,
+    // What was read of the file behind the body that was asked for. An append forgets it.
+    ahead: Option<Window>,
     ready: u64,
     shut: bool,
     failed: Option<u64>,
@@ -40,7 +43,7 @@ impl<D: Disk> Model for TopicLog<D> {
 
     ghost view = { λ l. record { disk = l.disk; kind = l.kind; bodies = option_map (bodies_at l.places.items) (D.holds l.disk); count = length l.places.items; length = l.gate + 1; limit = l.limit; ready = l.ready; shut = l.shut; failed = option_map (λ n. (0, n)) l.failed } };
 
-    ghost invariant = { λ l. IsLog D.holds D.may_leave D.reserved l.disk l.kind l.gate l.ready l.places l.tail l.shut };
+    ghost invariant = { λ l. IsLog D.holds D.may_leave D.reserved l.disk l.kind l.gate l.ready l.places l.tail l.ahead l.shut };
 }
 
 impl<D: Disk> TopicLog<D> {
@@ -87,6 +90,7 @@ impl<D: Disk> TopicLog<D> {
                 places: found.places,
                 gate: found.gate,
                 tail: Vec::new(alloc),
+                ahead: None,
                 ready: 0,
                 shut: false,
                 failed: None,
@@ -192,12 +196,15 @@ impl<D: Disk> TopicLog<D> {
         ensures reads { Reads D.holds D.may_leave D.moment D.left_since D.count D.reserved self.old.disk self.new.disk }
     {
         let place = self.places[index as usize];
-        match read_part(
+        let mut window = window_of(self.alloc, self.ahead.take())?;
+        let read = window.part(
             self.alloc,
             &mut self.disk,
             place.at.saturating_add(5),
             place.length as usize,
-        ) {
+        );
+        self.ahead = Some(window);
+        match read {
             Ok(body) => Ok(body),
             Err(ReadFault::Memory) => Err(ReadFault::Memory),
             Err(ReadFault::Failed) => {
@@ -260,6 +267,7 @@ impl<D: Disk> TopicLog<D> {
         let length = body.len() as u64;
         self.shut = true;
         self.ready = 0;
+        self.ahead = None;
         match write_frame(&mut self.disk, gate, &mut self.tail, body) {
             Ok(()) => {
                 push_place(&mut self.places, Place { at: gate, length });

@@ -1,9 +1,11 @@
 // A part of a file in memory, so that small frames are not read one by one.
-ghost use Rattle.std.specs.Prelude.{◌≡◌, ◌≤◌, ◌<◌, ◌+◌, ◌-◌, List, ℕ, Some, length, take, drop, IfOk, OnOk, OnErr, min, true};
+ghost use Rattle.std.specs.Prelude.{◌≡◌, ◌≤◌, ◌<◌, ◌+◌, ◌-◌, List, ℕ, Option, Some, length, take, drop, IfOk, IfErr, OnOk, OnErr, min, true};
 ghost use Rattle.cw_types.specs.Faults.{Rose};
-ghost use Rattle.cw_log.specs.Calls.{Reads, Shows};
+ghost use Rattle.cw_log.specs.Calls.{Reads, Shows, IsAhead};
+ghost use Rattle.cw_log.specs.State.{OnReadFault};
 
-use crate::calls::read;
+use crate::ReadFault;
+use crate::calls::{read, read_part};
 use cw_disk::{Disk, Failed};
 use std::alloc::{AllocError, Global};
 
@@ -34,17 +36,18 @@ impl Window {
         })
     }
 
-    // Whether the five bytes from `at` on are in it.
-    fn has(&self, at: u64) -> bool
-        ensures { result ≡ true → (self.now.start ≤ at) × (at - self.now.start + 5 ≤ self.now.filled) }
+    // Whether so many bytes from `at` on are in it.
+    fn has(&self, at: u64, count: usize) -> bool
+        ensures { result ≡ true → (self.now.start ≤ at) × (at - self.now.start + count ≤ self.now.filled) }
     {
-        at >= self.start && self.filled >= 5 && at - self.start <= (self.filled - 5) as u64
+        at >= self.start && self.filled >= count && at - self.start <= (self.filled - count) as u64
     }
 
     // Reads the part from `at` on.
     fn fill<D: Disk>(&mut self, disk: &mut D, at: u64) -> Result<(), Failed>
         requires { (file : List ℕ) → D.holds disk.old ≡ Some file → IsWindow file self.old }
         ensures window { (file : List ℕ) → D.holds disk.old ≡ Some file → IsWindow file self.new }
+        ensures size { length self.new.bytes.items ≡ length self.old.bytes.items }
         ensures start { OnOk result (self.new.start ≡ at) }
         ensures filled { OnOk result ((file : List ℕ) → D.holds disk.old ≡ Some file → self.new.filled ≡ min (length self.new.bytes.items) (length file - at)) }
         ensures within { self.new.filled ≤ length self.new.bytes.items }
@@ -68,12 +71,73 @@ impl Window {
         ensures reads { Reads D.holds D.may_leave D.moment D.left_since D.count D.reserved disk.old disk.new }
         ensures cause { OnErr result (Rose (D.count disk.old) (D.count disk.new)) }
     {
-        if self.has(at) {
+        if self.has(at, 5) {
             return Ok(five_of(&self.bytes[..self.filled], (at - self.start) as usize));
         }
         self.fill(disk, at)?;
         Ok(five_of(&self.bytes[..self.filled], 0))
     }
+
+    // So many bytes from `at` on, or fewer where the disk ends. A part that is longer than the window is read by itself.
+    pub(crate) fn part<D: Disk>(
+        &mut self,
+        alloc: Global,
+        disk: &mut D,
+        at: u64,
+        size: usize,
+    ) -> Result<Vec<u8>, ReadFault>
+        requires window { (file : List ℕ) → D.holds disk.old ≡ Some file → IsWindow file self.old }
+        requires within { self.old.filled ≤ length self.old.bytes.items }
+        ensures window { (file : List ℕ) → D.holds disk.old ≡ Some file → IsWindow file self.new }
+        ensures within { self.new.filled ≤ length self.new.bytes.items }
+        ensures bytes { IfOk result (λ bytes. (file : List ℕ) → D.holds disk.old ≡ Some file → at + size ≤ length file → bytes.items ≡ take size (drop at file)) }
+        ensures reads { Reads D.holds D.may_leave D.moment D.left_since D.count D.reserved disk.old disk.new }
+        ensures cause { IfErr result (OnReadFault (Rose (D.count disk.old) (D.count disk.new)) (Unit {0})) }
+    {
+        if size > self.bytes.len() {
+            return read_part(alloc, disk, at, size);
+        }
+        let from = self.place_of(disk, at, size)?;
+        Ok(part_of(&self.bytes[..self.filled], from, size).to_vec(alloc)?)
+    }
+
+    // Where the bytes from `at` on lie in it. It is filled from there on where so many bytes are not in it.
+    fn place_of<D: Disk>(&mut self, disk: &mut D, at: u64, count: usize) -> Result<usize, Failed>
+        requires window { (file : List ℕ) → D.holds disk.old ≡ Some file → IsWindow file self.old }
+        requires within { self.old.filled ≤ length self.old.bytes.items }
+        requires wide { count ≤ length self.old.bytes.items }
+        ensures window { (file : List ℕ) → D.holds disk.old ≡ Some file → IsWindow file self.new }
+        ensures within { self.new.filled ≤ length self.new.bytes.items }
+        ensures place { IfOk result (λ from. (self.new.start + from ≡ at) × (from ≤ self.new.filled)) }
+        ensures all { IfOk result (λ from. (file : List ℕ) → D.holds disk.old ≡ Some file → at + count ≤ length file → from + count ≤ self.new.filled) }
+        ensures reads { Reads D.holds D.may_leave D.moment D.left_since D.count D.reserved disk.old disk.new }
+        ensures cause { OnErr result (Rose (D.count disk.old) (D.count disk.new)) }
+    {
+        if self.has(at, count) {
+            return Ok((at - self.start) as usize);
+        }
+        self.fill(disk, at)?;
+        Ok(0)
+    }
+}
+
+// The window that is there, or a new one.
+pub(crate) fn window_of(alloc: Global, ahead: Option<Window>) -> Result<Window, AllocError>
+    ensures { (told : Option (List ℕ)) → IsAhead told ahead → IfOk result (λ window. IsAhead told (Some window)) }
+{
+    match ahead {
+        Some(window) => Ok(window),
+        None => Window::new(alloc),
+    }
+}
+
+// So many bytes from a place on, or fewer where there are not so many.
+fn part_of(bytes: &[u8], from: usize, size: usize) -> &[u8]
+    requires { from ≤ length bytes.now }
+    ensures { result.now ≡ take size (drop from bytes.now) }
+{
+    let rest = &bytes[from..];
+    &rest[..size.min(rest.len())]
 }
 
 // Up to five bytes from a place on, and 0 behind them.

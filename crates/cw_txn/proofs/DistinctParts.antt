@@ -5,11 +5,9 @@ use Rattle.std.specs.Cmp.{IsEquivalence}
 use Rattle.std.proofs.lemmas.List.{map-append, take_more, get_or_default}
 use Rattle.std.proofs.lemmas.Map.Keys.{IsDistinct-head, IsDistinct-tail, IsDistinct-push}
 use Rattle.cw_types.specs.declared.ids.PartKey.{PartKey}
-use Rattle.cw_types.specs.declared.ids.Span.{Span}
 use Rattle.cw_txn.specs.Same.{same_part}
 use Rattle.cw_txn.proofs.SameLemmas.{same_part-Decides, same_part-flip}
 use Rattle.cw_txn.proofs.Walks.{cut_at}
-use Rattle.cw_txn.proofs.Chained.{part_of}
 
 part_equivalence : IsEquivalence same_part
 part_equivalence = record {

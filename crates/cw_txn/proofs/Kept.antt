@@ -13,9 +13,11 @@ use Rattle.cw_txn.specs.declared.tables.Tables.{Tables}
 use Rattle.cw_txn.specs.Same.{same_tid, same_tag}
 use Rattle.cw_txn.specs.Legal.{is_committed}
 use Rattle.cw_txn.specs.History.{after_span}
-use Rattle.cw_txn.specs.Tables.{Keeps, epoch_at, committed_at, history_at, tid_order, tag_order}
-use Rattle.cw_txn.proofs.SameLemmas.{tid_at, same_tid-flip, same_tid-Decides, tag_at, same_tag-flip, same_tag-Decides}
-use Rattle.cw_txn.proofs.RowLemmas.{value-moved, value-set}
+use Rattle.cw_txn.specs.declared.commits.Commits.{Commits}
+use Rattle.cw_txn.specs.Committed.{committed_at}
+use Rattle.cw_txn.specs.Tables.{Keeps, epoch_at, history_at, tid_order}
+use Rattle.cw_txn.proofs.SameLemmas.{tid_at, same_tid-flip, same_tid-Decides}
+use Rattle.cw_txn.proofs.RowLemmas.{value-moved}
 use Rattle.cw_txn.proofs.Walks.{epoch_of-push, is_committed-push, history-push}
 
 raised : (b : Bool) (n : ℕ) → cond b (n + 1) n ≡ n + cond b 1 0
@@ -43,13 +45,12 @@ module _ (old : Tables) (entries : List Entry) (kept : Keeps old entries) where
     parts = λ q. kept.parts q ∙ sym (history-push q entries (Bump tid));
   }
 
-  module _ (committed : BTreeMap Tag Bool) (parts : BTreeMap PartKey History) (tag : Tag) (generation : ℕ) (spans : List Span)
-      (set : (q : Tag) → get tag_order committed q ≡ cond (is_at (tag_order tag) q) (Some true) (get tag_order old.committed q))
+  module _ (committed : Commits) (parts : BTreeMap PartKey History) (tag : Tag) (generation : ℕ) (spans : List Span)
+      (set : (q : Tag) → committed_at committed q ≡ cond (same_tag q tag) true (committed_at old.committed q))
       (moved : (part : PartKey) → history_at parts part ≡ fold (after_span part) (history_at old.parts part) spans) where
     pub keeps_commit : Keeps (record { epochs = old.epochs; committed = committed; parts = parts }) (entries ++ Commit tag generation spans ∷ [])
     keeps_commit = record {
       epochs = λ q. kept.epochs q ∙ omega (arith, epoch_of-push q entries (Commit tag generation spans));
-      committed = λ q. value-set tag_order same_tag tag_at same_tag-flip same_tag-Decides false old.committed committed tag true set q
-          ∙ found (committed_at old.committed q) (same_tag q tag) ∙ ap (λ (b : Bool). b || same_tag q tag) (kept.committed q) ∙ sym (is_committed-push q entries (Commit tag generation spans));
+      committed = λ q. set q ∙ found (committed_at old.committed q) (same_tag q tag) ∙ ap (λ (b : Bool). b || same_tag q tag) (kept.committed q) ∙ sym (is_committed-push q entries (Commit tag generation spans));
       parts = λ q. moved q ∙ ap (λ (h : History). fold (after_span q) h spans) (kept.parts q) ∙ sym (history-push q entries (Commit tag generation spans));
     }

@@ -1,5 +1,7 @@
 pub mod SameLemmas
 pub mod RowLemmas
+pub mod CommitLemmas
+pub mod PartLemmas
 pub mod Walks
 pub mod Kept
 pub mod Equals

@@ -1,6 +1,6 @@
 -- One entry more on a walk over a list.
-use Rattle.std.proofs.Common.{◌≡◌, ℕ, ◌+◌, ◌<◌, ◌≤◌, List, [], ◌∷◌, ◌++◌, length, take, drop, get_or, Option, Some, None, refl, sym, ap, subst, ◌∙◌, arith, append_assoc, length-take}
-use Rattle.std.proofs.lemmas.List.{take_more, take_all}
+use Rattle.std.proofs.Common.{◌≡◌, ℕ, ◌+◌, ◌<◌, List, [], ◌∷◌, ◌++◌, length, take, drop, get_or, Option, refl, sym, ap, subst, ◌∙◌, arith, append_assoc, length-take}
+use Rattle.std.proofs.lemmas.List.{take_more}
 use Rattle.cw_types.specs.declared.ids.PartKey.{PartKey}
 use Rattle.cw_txn.specs.declared.entry.Entry.{Entry}
 use Rattle.cw_txn.specs.declared.tables.Tables.{Tables}
@@ -57,11 +57,11 @@ module _ (entries : List Entry) (place : ℕ) (entry : Entry) (within : place < 
     not_allowed = never;
   }
 
-  pub walked_on : (old made new : Tables) (first after : Option ℕ) → Walked old (take place entries) first → IsAllowedBehind (take place entries) entry
-      → SameRows old made → ((l : List Entry) → Keeps made l → Keeps new (l ++ entry ∷ []))
+  pub walked_on : (old new : Tables) (first after : Option ℕ) → Walked old (take place entries) first → IsAllowedBehind (take place entries) entry
+      → ((l : List Entry) → Keeps old l → Keeps new (l ++ entry ∷ []))
       → (ChainsUpTo (take place entries) first → ChainsUpTo (take place entries ++ entry ∷ []) after) → Walked new (take (place + 1) entries) after
-  walked_on old made new first after walked allowed same added later = subst (λ (l : List Entry). Walked new l after) (sym one_more) (record {
+  walked_on old new first after walked allowed added later = subst (λ (l : List Entry). Walked new l after) (sym one_more) (record {
     allowed = Each-push IsAllowedBehind (take place entries) entry walked.allowed allowed;
-    kept = added (take place entries) (Keeps-same old made (take place entries) same walked.kept);
+    kept = added (take place entries) walked.kept;
     chained = later walked.chained;
   })

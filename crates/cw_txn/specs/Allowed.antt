@@ -1,6 +1,6 @@
 -- Which entries may stand behind which others in a transaction log that is opened: legal ones (KIP-618), of the parts
 -- that their producer owns. A producer of a script numbers its transactions by their places (this project's own).
-use Rattle.std.specs.Prelude.{◌≡◌, ℕ, ◌≤◌, ◌++◌, List, [], ◌∷◌, length, map, All, Some}
+use Rattle.std.specs.Prelude.{◌≡◌, ℕ, ◌≤◌, ◌++◌, List, ◌∷◌, length, map, All, Some}
 use Rattle.std.specs.Bool.{⊤}
 use Rattle.std.specs.List.{IsDistinct}
 use Rattle.cw_types.specs.declared.ids.Tid.{Tid}

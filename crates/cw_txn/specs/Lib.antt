@@ -3,6 +3,8 @@ pub mod History
 pub mod Legal
 pub mod Allowed
 pub mod Transactions
+pub mod Commits
+pub mod Committed
 pub mod Tables
 pub mod Walk
 pub mod Body

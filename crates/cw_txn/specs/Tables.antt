@@ -8,7 +8,6 @@ use Rattle.cw_types.specs.declared.ids.Tag.{Tag}
 use Rattle.cw_types.specs.declared.ids.PartKey.{PartKey}
 use Rattle.cw_types.specs.declared.ids.PartKey.TheVariants.{Raw, File, Seq, Sink}
 use Rattle.cw_types.specs.contracts.ids.TidOrd.TheImpl as tid_ord
-use Rattle.cw_types.specs.contracts.ids.TagOrd.TheImpl as tag_ord
 use Rattle.cw_types.specs.contracts.ids.PartKeyOrd.TheImpl as part_ord
 use Rattle.cw_txn.specs.declared.entry.Entry.{Entry}
 use Rattle.cw_txn.specs.declared.entry.Entry.TheVariants.{Bump, Commit, Set}
@@ -16,6 +15,7 @@ use Rattle.cw_txn.specs.declared.entry.EntryRef.{EntryRef}
 use Rattle.cw_txn.specs.declared.entry.EntryRef.TheVariants.{Bump as BumpRef, Commit as CommitRef, Set as SetRef}
 use Rattle.cw_txn.specs.declared.tables.History.{History}
 use Rattle.cw_txn.specs.declared.tables.Tables.{Tables}
+use Rattle.cw_txn.specs.Committed.{committed_at, HasTag}
 use Rattle.cw_txn.specs.History.{history, unset}
 use Rattle.cw_txn.specs.Legal.{epoch_of, is_committed, IsLegal, Chains}
 
@@ -29,18 +29,12 @@ entry_of (SetRef tid epoch list) = Set tid.now epoch list.now
 abbrev pub tid_order : Tid → Tid → Ordering
 tid_order = tid_ord.cmp-value.it
 
-abbrev pub tag_order : Tag → Tag → Ordering
-tag_order = tag_ord.cmp-value.it
-
 abbrev pub part_order : PartKey → PartKey → Ordering
 part_order = part_ord.cmp-value.it
 
 -- what each table says of a key; a missing row reads as the value before the first entry
 abbrev pub epoch_at : BTreeMap Tid ℕ → Tid → ℕ
 epoch_at epochs tid = unwrap_or (get tid_order epochs tid) 0
-
-abbrev pub committed_at : BTreeMap Tag Bool → Tag → Bool
-committed_at committed tag = unwrap_or (get tag_order committed tag) false
 
 abbrev pub history_at : BTreeMap PartKey History → PartKey → History
 history_at parts part = unwrap_or (get part_order parts part) unset
@@ -70,13 +64,13 @@ HasPart parts part = IsSome (get part_order parts part)
 -- each row that the entry changes is there
 abbrev pub HasRows : Tables → Entry → Type 0
 HasRows tables (Bump tid) = IsSome (get tid_order tables.epochs tid)
-HasRows tables (Commit tag generation spans) = IsSome (get tag_order tables.committed tag) × All (λ span. HasPart tables.parts span.part) spans
+HasRows tables (Commit tag generation spans) = HasTag tables.committed tag × All (λ span. HasPart tables.parts span.part) spans
 HasRows tables (Set tid epoch list) = All (λ set. HasPart tables.parts set.part) list
 
 -- no row was lost
 pub record KeepsRows (old new : Tables) : Type 0 where
   pub epochs : (tid : Tid) → IsSome (get tid_order old.epochs tid) → IsSome (get tid_order new.epochs tid)
-  pub committed : (tag : Tag) → IsSome (get tag_order old.committed tag) → IsSome (get tag_order new.committed tag)
+  pub committed : (tag : Tag) → HasTag old.committed tag → HasTag new.committed tag
   pub parts : (part : PartKey) → HasPart old.parts part → HasPart new.parts part
 
 -- every table reads as before

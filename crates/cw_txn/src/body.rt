@@ -15,6 +15,9 @@ use cw_bytes::{
 use cw_types::{Epoch, Listed, Span};
 use std::alloc::{AllocError, Global};
 
+// For so many elements room is made before they are read, so that a short list takes no more than it needs.
+const MOST_AT_ONCE: u32 = 16;
+
 /// Why a body has no entries.
 #[derive(Clone, Copy, Debug, PartialEq, Eq, Drop)]
 pub enum BodyFault {
@@ -59,7 +62,7 @@ fn read_many_spans(
 ) -> Result<Vec<Span>, FieldFault>
     ensures { Gives (λ spans. (spans.items, from.new)) result (many_at span_at count from.old) }
 {
-    let mut spans = Vec::new(alloc);
+    let mut spans = Vec::with_capacity(alloc, count.min(MOST_AT_ONCE) as usize)?;
     for _ in 0..count {
         let span = read_span(alloc, from)?;
         spans.push(span)?;
@@ -89,7 +92,7 @@ fn read_many_entries(
 ) -> Result<Vec<Entry>, FieldFault>
     ensures { Gives (λ entries. (entries.items, from.new)) result (many_at entry_at count from.old) }
 {
-    let mut entries = Vec::new(alloc);
+    let mut entries = Vec::with_capacity(alloc, count.min(MOST_AT_ONCE) as usize)?;
     for _ in 0..count {
         let entry = read_entry(alloc, from)?;
         entries.push(entry)?;

@@ -8,6 +8,7 @@
 
 mod allowed;
 mod body;
+mod commits;
 mod coordinator;
 mod entry;
 mod replay;

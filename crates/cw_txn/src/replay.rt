@@ -9,7 +9,7 @@ ghost use Rattle.cw_txn.specs.Tables.{Keeps, history_at};
 ghost use Rattle.cw_txn.specs.Walk.{OnListFault, ChainsUpTo, IsChainTest, IsSpanTest, Walked};
 
 use crate::allowed::is_allowed;
-use crate::entry::{Entry, EntryRef};
+use crate::entry::Entry;
 use crate::tables::Tables;
 use cw_types::Span;
 use std::alloc::{AllocError, Global};
@@ -71,8 +71,7 @@ fn step(
         return Err(ListFault::NotAllowed(place as u64));
     }
     let after = first_unchained(tables, unchained, place, entry);
-    tables.make_rows(&EntryRef::of(entry))?;
-    tables.add(entry);
+    tables.put(entry)?;
     Ok(after)
 }
 

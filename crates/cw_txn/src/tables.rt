@@ -1,12 +1,13 @@
 //! What the coordinator keeps of its list, so that no look-up walks it.
-ghost use Rattle.std.specs.Prelude.{◌≡◌, ◌<◌, ◌+◌, ◌^◌, ◌-◌, ◌++◌, ◌∷◌, [], IfOk, OnOk, IsSome, Some, All, List};
+ghost use Rattle.std.specs.Prelude.{◌≡◌, ◌<◌, ◌+◌, ◌^◌, ◌-◌, ◌++◌, ◌∷◌, ◌&&◌, [], IfOk, OnOk, IsSome, Some, All, List, is_some, if◌then◌else◌};
 ghost use Rattle.std.specs.List.{fold};
-ghost use Rattle.std.specs.BTreeMap.{get, BTreeMap};
+ghost use Rattle.std.specs.BTreeMap.{get, is_at, BTreeMap};
 ghost use Rattle.cw_types.specs.declared.ids.Tid.{Tid};
 ghost use Rattle.cw_types.specs.declared.ids.PartKey.{PartKey};
 ghost use Rattle.cw_txn.specs.declared.entry.Entry.{Entry};
 ghost use Rattle.cw_txn.specs.History.{after_span, after_offset};
 
+use crate::commits::Commits;
 use crate::entry::{Entry, EntryRef, SetOffset};
 use crate::rows::{has_row, make_row, set_row, value_at};
 use cw_types::{Name, PartKey, Span, Tag, Tid};
@@ -30,12 +31,13 @@ impl History {
 #[derive(Drop)]
 pub struct Tables {
     pub epochs: BTreeMap<Tid, u64>,
-    pub committed: BTreeMap<Tag, bool>,
+    pub committed: Commits,
     pub parts: BTreeMap<PartKey, History>,
 }
 
 impl Tables {
-    ghost use Rattle.cw_txn.specs.Tables.{epoch_at, committed_at, history_at, entry_of, parts_in, part_order, Keeps, HasRows, KeepsRows, SameRows};
+    ghost use Rattle.cw_txn.specs.Committed.{committed_at};
+    ghost use Rattle.cw_txn.specs.Tables.{epoch_at, history_at, entry_of, parts_in, part_order, Keeps, HasRows, KeepsRows, SameRows};
     ghost use Rattle.std.specs.BTreeMap.{IsOrdered};
 
     pub fn new(alloc: Global) -> Tables
@@ -43,7 +45,7 @@ impl Tables {
     {
         Tables {
             epochs: BTreeMap::new(alloc),
-            committed: BTreeMap::new(alloc),
+            committed: Commits::new(alloc),
             parts: BTreeMap::new(alloc),
         }
     }
@@ -57,7 +59,7 @@ impl Tables {
     pub fn is_committed(&self, tag: &Tag) -> bool
         ensures { result ≡ committed_at self.now.committed tag.now }
     {
-        value_at(&self.committed, tag, false)
+        self.committed.contains(tag)
     }
 
     pub fn history(&self, part: &PartKey) -> History
@@ -90,7 +92,7 @@ impl Tables {
         match entry {
             EntryRef::Bump(tid) => make_epoch(&mut self.epochs, tid),
             EntryRef::Commit { tag, spans, .. } => {
-                make_tag(&mut self.committed, tag)?;
+                self.committed.make_row(tag)?;
                 make_span_parts(&mut self.parts, spans)?;
                 Ok(())
             }
@@ -99,6 +101,21 @@ impl Tables {
                 Ok(())
             }
         }
+    }
+
+    // One entry more, and the rows that it changes. An `Err` may leave a part of it.
+    pub fn put(&mut self, entry: &Entry) -> Result<(), AllocError>
+        requires { (tid : Tid) → epoch_at self.old.epochs tid + 1 < 2 ^ 64 }
+        ensures { OnOk result ((entries : List Entry) → Keeps self.old entries → Keeps self.new (entries ++ entry.now ∷ [])) }
+    {
+        if let Entry::Commit { tag, spans, .. } = entry {
+            self.committed.put(tag.copy()?)?;
+            put_ends(&mut self.parts, spans.as_slice())?;
+            return Ok(());
+        }
+        self.make_rows(&EntryRef::of(entry))?;
+        self.add(entry);
+        Ok(())
     }
 
     // One entry more.
@@ -114,7 +131,7 @@ impl Tables {
                 set_row(&mut self.epochs, tid, epoch + 1);
             }
             Entry::Commit { tag, spans, .. } => {
-                set_row(&mut self.committed, tag, true);
+                self.committed.commit(tag);
                 move_ends(&mut self.parts, spans.as_slice());
             }
             Entry::Set { list, .. } => set_histories(&mut self.parts, list.as_slice()),
@@ -122,8 +139,7 @@ impl Tables {
     }
 }
 
-ghost use Rattle.cw_txn.specs.Tables.{epoch_at, committed_at, history_at, tid_order, tag_order, is_of, HasPart};
-ghost use Rattle.cw_types.specs.declared.ids.Tag.{Tag};
+ghost use Rattle.cw_txn.specs.Tables.{epoch_at, history_at, tid_order, part_order, is_of, HasPart};
 ghost use Rattle.std.specs.Str.{bytes_eq};
 
 pub fn is_of(part: &PartKey, connector: &Name) -> bool
@@ -161,17 +177,6 @@ fn make_epoch(epochs: &mut BTreeMap<Tid, u64>, tid: &Tid) -> Result<(), AllocErr
         return Ok(());
     }
     make_row(epochs, tid.copy()?, 0)
-}
-
-fn make_tag(committed: &mut BTreeMap<Tag, bool>, tag: &Tag) -> Result<(), AllocError>
-    ensures same { (q : Tag) → committed_at committed.new q ≡ committed_at committed.old q }
-    ensures kept { (q : Tag) → IsSome (get tag_order committed.old q) → IsSome (get tag_order committed.new q) }
-    ensures there { OnOk result (IsSome (get tag_order committed.new tag.now)) }
-{
-    if has_row(committed, tag) {
-        return Ok(());
-    }
-    make_row(committed, tag.copy()?, false)
 }
 
 fn make_part(parts: &mut BTreeMap<PartKey, History>, part: &PartKey) -> Result<(), AllocError>
@@ -215,15 +220,51 @@ fn move_end(parts: &mut BTreeMap<PartKey, History>, span: &Span)
     ensures moved { (part : PartKey) → history_at parts.new part ≡ after_span part (history_at parts.old part) span.now }
     ensures kept { (q : PartKey) → HasPart parts.old q → HasPart parts.new q }
 {
-    let was = value_at(parts, &span.part, History::UNSET);
-    set_row(
-        parts,
-        &span.part,
-        History {
-            base: was.base,
-            end: Some(span.to),
-        },
-    );
+    let _ = has_moved(parts, span);
+}
+
+// Moves the end of a part that has a row, and says whether it has one.
+fn has_moved(parts: &mut BTreeMap<PartKey, History>, span: &Span) -> bool
+    ensures there { result ≡ is_some (get part_order parts.old span.now.part) }
+    ensures moved { (q : PartKey) → get part_order parts.new q ≡ (if result && is_at (part_order span.now.part) q then Some (record { base = (history_at parts.old span.now.part).base; end = Some span.now.to }) else get part_order parts.old q) }
+{
+    match parts.get_mut(&span.part) {
+        Some(row) => {
+            *row = ended(*row, span);
+            true
+        }
+        None => false,
+    }
+}
+
+// The end of a part moves to its span's, in its row or in a new one.
+fn put_end(parts: &mut BTreeMap<PartKey, History>, span: &Span) -> Result<(), AllocError>
+    ensures { OnOk result ((part : PartKey) → history_at parts.new part ≡ after_span part (history_at parts.old part) span.now) }
+{
+    if has_moved(parts, span) {
+        return Ok(());
+    }
+    parts.insert(span.part.copy()?, ended(History::UNSET, span))?;
+    Ok(())
+}
+
+// A part's history with its end at a span's.
+fn ended(history: History, span: &Span) -> History
+    ensures { result ≡ record { base = history.base; end = Some span.now.to } }
+{
+    History {
+        base: history.base,
+        end: Some(span.to),
+    }
+}
+
+fn put_ends(parts: &mut BTreeMap<PartKey, History>, spans: &[Span]) -> Result<(), AllocError>
+    ensures { OnOk result ((part : PartKey) → history_at parts.new part ≡ fold (after_span part) (history_at parts.old part) spans.now) }
+{
+    for span in spans {
+        put_end(parts, span)?;
+    }
+    Ok(())
 }
 
 fn move_ends(parts: &mut BTreeMap<PartKey, History>, spans: &[Span])

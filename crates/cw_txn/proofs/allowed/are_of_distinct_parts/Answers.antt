@@ -4,7 +4,6 @@ use Rattle.cw_txn.specs.declared.entry.SetOffset.{SetOffset}
 use Rattle.cw_txn.specs.Same.{same_part}
 use Rattle.std.specs.Map.{lookup}
 use Rattle.std.specs.BTreeMap.{is_at}
-use Rattle.cw_types.specs.declared.ids.PartKey.{PartKey}
 use Rattle.cw_txn.specs.Tables.{part_order}
 use Rattle.cw_txn.proofs.DistinctParts.{none_distinct, stay_distinct, not_distinct}
 use Rattle.cw_txn.proofs.Noted.{part_set, noted_more, is_new, is_old}

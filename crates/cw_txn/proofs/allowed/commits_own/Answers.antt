@@ -1,4 +1,4 @@
-use Rattle.std.proofs.Common.{IsTrue, ◌↔◌, All, map, subst, sym}
+use Rattle.std.proofs.Common.{IsTrue, ◌↔◌, map, subst, sym}
 use Rattle.cw_types.specs.declared.ids.Tid.{Tid}
 use Rattle.cw_txn.specs.Allowed.{IsRaw, IsSourceOf, CommitsOwn}
 use Rattle.cw_txn.proofs.Chained.{part_of}

@@ -6,7 +6,7 @@ use Rattle.cw_txn.proofs.body.read_many_entries.Goals as goal
 
 pub returns-in_err-entry : goal.returns-in_err-entry
 returns-in_err-entry c =
-    let p = err_from_is_err_and c.from_residual.result c.from_residual.ensures.1 in
+    let p = err_from_is_err_and c.from_residual-in_err-entry.result c.from_residual-in_err-entry.ensures.1 in
     rw (p.1, p.2) (ends entry_at c.in_err-entry.field-0.0 c.loop.entries.items c.args.count c.loop.counter c.loop.from (many_at entry_at c.args.count c.args.from.now) c.loop-test.true c.in_err-entry.ensures c.loop.invariant)
 
 pub loop-preserved : goal.loop-preserved

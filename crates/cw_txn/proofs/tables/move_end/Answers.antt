@@ -1,14 +1,9 @@
-use Rattle.std.proofs.Common.{Some, ap}
-use Rattle.cw_txn.specs.declared.tables.History.{History}
-use Rattle.cw_txn.specs.Same.{same_part}
-use Rattle.cw_txn.specs.History.{unset}
-use Rattle.cw_txn.specs.Tables.{part_order}
-use Rattle.cw_txn.proofs.SameLemmas.{part_at, same_part-flip, same_part-Decides}
-use Rattle.cw_txn.proofs.RowLemmas.{value-moved}
+use Rattle.std.proofs.Common.{◌∙◌}
+use Rattle.cw_txn.proofs.PartLemmas.{moved_there, rows_kept}
 use Rattle.cw_txn.proofs.tables.move_end.Goals as goal
 
 pub returns-clause-moved : goal.returns-clause-moved
-returns-clause-moved c = value-moved part_order same_part part_at same_part-flip same_part-Decides unset
-    c.args.parts.now c.set_row.new.table c.args.span.now.part _ c.set_row.ensures
-    (λ (h : History). record { base = h.base; end = Some c.args.span.now.to })
-    (ap (λ (h : History). record { base = h.base; end = Some c.args.span.now.to }) c.value_at-was.ensures)
+returns-clause-moved c = moved_there c.args.parts.now c.has_moved.new.parts c.args.span.now c.has_moved.result c.has_moved.ensures.there c.has_moved.ensures.moved (c.has_moved.ensures.there ∙ c.requires)
+
+pub returns-clause-kept : goal.returns-clause-kept
+returns-clause-kept c = rows_kept c.args.parts.now c.has_moved.new.parts c.args.span.now c.has_moved.result c.has_moved.ensures.there c.has_moved.ensures.moved

@@ -32,6 +32,7 @@ invariant_of-self g c =
       low = omega (arith, c.self.invariant.low);
       high = omega (arith, fit);
       room = λ some. absurd (omega arith);
+      ahead_is = tt;
     }
 
 pub invariant_of-self-in-Err : goal.invariant_of-self-in-Err
@@ -46,6 +47,7 @@ invariant_of-self-in-Err g c =
       low = c.self.invariant.low;
       high = c.self.invariant.high;
       room = λ some. absurd (omega arith);
+      ahead_is = tt;
     }
 
 pub returns-in-Ok-clause-bodies : goal.returns-in-Ok-clause-bodies

@@ -1,4 +1,4 @@
-use Rattle.std.proofs.Common.{◌≡◌, ◌∙◌, List, ℕ, ap, arith}
+use Rattle.std.proofs.Common.{◌∙◌, ap, arith}
 use Rattle.cw_log.specs.Log.{bodies_at}
 use Rattle.cw_log.proofs.Gates.{told_before}
 use Rattle.cw_log.proofs.Appended.{told_count}

@@ -12,6 +12,7 @@ invariant_of-result g c = record {
   low = c.in-Ok.ensures.gate.0;
   high = c.in-Ok.ensures.gate.1;
   room = λ some. absurd (omega arith);
+  ahead_is = tt;
 }
 
 pub returns-in-Ok-clause-list : goal.returns-in-Ok-clause-list

@@ -1,24 +1,42 @@
-use Rattle.std.proofs.Common.{◌≡◌, ◌+◌, ◌∙◌, ℕ, List, [], get_or, take, drop, ◌≤◌, refl, sym, ap, subst, arith}
+use Rattle.std.proofs.Common.{◌≡◌, ◌+◌, ◌∙◌, Option, Some, ℕ, List, [], get_or, take, drop, ◌≤◌, refl, sym, ap, subst, arith}
+use Rattle.cw_log.specs.Calls.{IsAhead}
 use Rattle.cw_log.specs.Log.{bodies_at}
-use Rattle.cw_log.proofs.Gates.{told_before}
+use Rattle.cw_log.specs.declared.window.Window.{Window}
+use Rattle.cw_log.proofs.Gates.{told_before, reads_none}
 use Rattle.cw_log.proofs.Opened.{gate_within}
 use Rattle.cw_log.proofs.Appended.{log_read, room_read, body_at}
 use Rattle.cw_log.proofs.topic.TopicLog.read_body.Goals as goal
 
 pub invariant_of-self : goal.invariant_of-self
 invariant_of-self g c =
-    log_read g.D.Disk.holds g.D.Disk.may_leave g.D.Disk.moment g.D.Disk.left_since g.D.Disk.count g.D.Disk.reserved c.self.inside.disk c.read_part.new.disk c.self.inside.kind c.self.inside.gate c.self.inside.ready c.self.inside.ready c.self.inside.places c.self.inside.places c.self.inside.tail c.self.inside.tail c.self.inside.shut c.self.invariant c.read_part.ensures.reads refl
-    (λ some. room_read g.D.Disk.holds g.D.Disk.may_leave g.D.Disk.moment g.D.Disk.left_since g.D.Disk.count g.D.Disk.reserved c.self.inside.disk c.read_part.new.disk c.self.inside.gate c.self.inside.ready c.self.inside.places c.self.inside.places c.self.inside.tail c.self.inside.tail (c.self.invariant.room some) c.read_part.ensures.reads.room (omega arith) (omega arith) refl)
+    log_read g.D.Disk.holds g.D.Disk.may_leave g.D.Disk.moment g.D.Disk.left_since g.D.Disk.count g.D.Disk.reserved c.self.inside.disk c.self.inside.disk c.self.inside.kind c.self.inside.gate c.self.inside.ready c.self.inside.ready c.self.inside.places c.self.inside.places c.self.inside.tail c.self.inside.tail c.self.inside.ahead c.take.new.self c.self.inside.shut c.self.invariant (reads_none g.D.Disk.holds g.D.Disk.may_leave g.D.Disk.moment g.D.Disk.left_since g.D.Disk.count g.D.Disk.reserved g.met.D.Disk.counts_now c.self.inside.disk) refl
+    (λ some. room_read g.D.Disk.holds g.D.Disk.may_leave g.D.Disk.moment g.D.Disk.left_since g.D.Disk.count g.D.Disk.reserved c.self.inside.disk c.self.inside.disk c.self.inside.gate c.self.inside.ready c.self.inside.places c.self.inside.places c.self.inside.tail c.self.inside.tail (c.self.invariant.room some) (omega arith) (omega arith) (omega arith) refl)
+    (subst (λ (ahead : Option Window). IsAhead (g.D.Disk.holds c.self.inside.disk) ahead) (sym c.take.ensures.after) tt)
+
+pub invariant_of-self-in-Ok : goal.invariant_of-self-in-Ok
+invariant_of-self-in-Ok g c =
+    log_read g.D.Disk.holds g.D.Disk.may_leave g.D.Disk.moment g.D.Disk.left_since g.D.Disk.count g.D.Disk.reserved c.self.inside.disk c.part-read.new.disk c.self.inside.kind c.self.inside.gate c.self.inside.ready c.self.inside.ready c.self.inside.places c.self.inside.places c.self.inside.tail c.self.inside.tail c.self.inside.ahead (Some c.part-read.new.self) c.self.inside.shut c.self.invariant c.part-read.ensures.reads refl
+    (λ some. room_read g.D.Disk.holds g.D.Disk.may_leave g.D.Disk.moment g.D.Disk.left_since g.D.Disk.count g.D.Disk.reserved c.self.inside.disk c.part-read.new.disk c.self.inside.gate c.self.inside.ready c.self.inside.places c.self.inside.places c.self.inside.tail c.self.inside.tail (c.self.invariant.room some) c.part-read.ensures.reads.room (omega arith) (omega arith) refl) (c.part-read.ensures.window, c.part-read.ensures.within)
 
 pub invariant_of-self-in-Err-Memory : goal.invariant_of-self-in-Err-Memory
 invariant_of-self-in-Err-Memory g c =
-    log_read g.D.Disk.holds g.D.Disk.may_leave g.D.Disk.moment g.D.Disk.left_since g.D.Disk.count g.D.Disk.reserved c.self.inside.disk c.read_part.new.disk c.self.inside.kind c.self.inside.gate c.self.inside.ready c.self.inside.ready c.self.inside.places c.self.inside.places c.self.inside.tail c.self.inside.tail c.self.inside.shut c.self.invariant c.read_part.ensures.reads refl
-    (λ some. room_read g.D.Disk.holds g.D.Disk.may_leave g.D.Disk.moment g.D.Disk.left_since g.D.Disk.count g.D.Disk.reserved c.self.inside.disk c.read_part.new.disk c.self.inside.gate c.self.inside.ready c.self.inside.places c.self.inside.places c.self.inside.tail c.self.inside.tail (c.self.invariant.room some) c.read_part.ensures.reads.room (omega arith) (omega arith) refl)
+    log_read g.D.Disk.holds g.D.Disk.may_leave g.D.Disk.moment g.D.Disk.left_since g.D.Disk.count g.D.Disk.reserved c.self.inside.disk c.part-read.new.disk c.self.inside.kind c.self.inside.gate c.self.inside.ready c.self.inside.ready c.self.inside.places c.self.inside.places c.self.inside.tail c.self.inside.tail c.self.inside.ahead (Some c.part-read.new.self) c.self.inside.shut c.self.invariant c.part-read.ensures.reads refl
+    (λ some. room_read g.D.Disk.holds g.D.Disk.may_leave g.D.Disk.moment g.D.Disk.left_since g.D.Disk.count g.D.Disk.reserved c.self.inside.disk c.part-read.new.disk c.self.inside.gate c.self.inside.ready c.self.inside.places c.self.inside.places c.self.inside.tail c.self.inside.tail (c.self.invariant.room some) c.part-read.ensures.reads.room (omega arith) (omega arith) refl) (c.part-read.ensures.window, c.part-read.ensures.within)
 
 pub invariant_of-self-in-Err-Failed : goal.invariant_of-self-in-Err-Failed
 invariant_of-self-in-Err-Failed g c =
-    log_read g.D.Disk.holds g.D.Disk.may_leave g.D.Disk.moment g.D.Disk.left_since g.D.Disk.count g.D.Disk.reserved c.self.inside.disk c.read_part.new.disk c.self.inside.kind c.self.inside.gate c.self.inside.ready c.self.inside.ready c.self.inside.places c.self.inside.places c.self.inside.tail c.self.inside.tail c.self.inside.shut c.self.invariant c.read_part.ensures.reads refl
-    (λ some. room_read g.D.Disk.holds g.D.Disk.may_leave g.D.Disk.moment g.D.Disk.left_since g.D.Disk.count g.D.Disk.reserved c.self.inside.disk c.read_part.new.disk c.self.inside.gate c.self.inside.ready c.self.inside.places c.self.inside.places c.self.inside.tail c.self.inside.tail (c.self.invariant.room some) c.read_part.ensures.reads.room (omega arith) (omega arith) refl)
+    log_read g.D.Disk.holds g.D.Disk.may_leave g.D.Disk.moment g.D.Disk.left_since g.D.Disk.count g.D.Disk.reserved c.self.inside.disk c.part-read.new.disk c.self.inside.kind c.self.inside.gate c.self.inside.ready c.self.inside.ready c.self.inside.places c.self.inside.places c.self.inside.tail c.self.inside.tail c.self.inside.ahead (Some c.part-read.new.self) c.self.inside.shut c.self.invariant c.part-read.ensures.reads refl
+    (λ some. room_read g.D.Disk.holds g.D.Disk.may_leave g.D.Disk.moment g.D.Disk.left_since g.D.Disk.count g.D.Disk.reserved c.self.inside.disk c.part-read.new.disk c.self.inside.gate c.self.inside.ready c.self.inside.places c.self.inside.places c.self.inside.tail c.self.inside.tail (c.self.invariant.room some) c.part-read.ensures.reads.room (omega arith) (omega arith) refl) (c.part-read.ensures.window, c.part-read.ensures.within)
+
+pub part-read-requires-clause-window : goal.part-read-requires-clause-window
+part-read-requires-clause-window g c =
+    let told = g.D.Disk.holds c.self.inside.disk in
+    (c.in_ok-window.ensures told (subst (λ (ahead : Option Window). IsAhead told ahead) (sym c.take.ensures.value) c.self.invariant.ahead_is)).0
+
+pub part-read-requires-clause-within : goal.part-read-requires-clause-within
+part-read-requires-clause-within g c =
+    let told = g.D.Disk.holds c.self.inside.disk in
+    (c.in_ok-window.ensures told (subst (λ (ahead : Option Window). IsAhead told ahead) (sym c.take.ensures.value) c.self.invariant.ahead_is)).1
 
 pub returns-in-Ok-clause-body : goal.returns-in-Ok-clause-body
 returns-in-Ok-clause-body g c bodies told =

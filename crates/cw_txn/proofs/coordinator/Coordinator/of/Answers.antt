@@ -1,4 +1,4 @@
-use Rattle.std.proofs.Common.{◌≡◌, List, [], None, Contains, subst, arith, vec_capacity}
+use Rattle.std.proofs.Common.{◌≡◌, List, [], None, Contains, subst, arith}
 use Rattle.cw_txn.specs.declared.entry.Entry.{Entry}
 use Rattle.cw_txn.specs.Walk.{Walked}
 use Rattle.cw_txn.proofs.AllowedLemmas.{allowed_is_legal}

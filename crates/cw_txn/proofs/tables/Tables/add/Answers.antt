@@ -25,6 +25,9 @@ returns-in-Bump-clause-kept c entries kept =
 
 pub returns-in-Commit-clause-kept : goal.returns-in-Commit-clause-kept
 returns-in-Commit-clause-kept c entries kept =
-    subst (λ (e : Entry). Keeps (record { epochs = c.args.self.now.epochs; committed = c.set_row-in-Commit.new.table; parts = c.move_ends.new.parts }) (entries ++ e ∷ [])) (sym c.in-Commit.is)
-    (keeps_commit c.args.self.now entries kept c.set_row-in-Commit.new.table c.move_ends.new.parts c.in-Commit.tag c.in-Commit.generation c.in-Commit.spans c.set_row-in-Commit.ensures
+    subst (λ (e : Entry). Keeps (record { epochs = c.args.self.now.epochs; committed = c.commit.new.self; parts = c.move_ends.new.parts }) (entries ++ e ∷ [])) (sym c.in-Commit.is)
+    (keeps_commit c.args.self.now entries kept c.commit.new.self c.move_ends.new.parts c.in-Commit.tag c.in-Commit.generation c.in-Commit.spans c.commit.ensures.set
     (λ part. c.move_ends.ensures.moved part ∙ ap (λ (l : List Span). fold (after_span part) (history_at c.args.self.now.parts part) l) c.as_slice.ensures))
+
+pub commit-requires : goal.commit-requires
+commit-requires c = (subst (λ (e : Entry). HasRows c.args.self.now e) c.in-Commit.is c.requires.rows).0
