@@ -1,6 +1,6 @@
 -- The facts of the logs: what stands where it may (KIP-98, KIP-618), and that a log which was compacted still says what its whole list says, as Kafka's
 -- compacted topics do. They are this project's own.
-use Rattle.std.specs.Prelude.{◌≡◌, ℕ, ◌<◌, ◌≤◌, ◌^◌, true, List, [], length, map, Contains}
+use Rattle.std.specs.Prelude.{◌≡◌, ℕ, ◌<◌, ◌≤◌, ◌^◌, true, List, [], length, map, Contains, IsSome}
 use Rattle.std.specs.List.{flat_map, filter_map, AllByRecursion, IsDistinct}
 use Rattle.cw_types.specs.declared.ids.TaskId.{TaskId}
 use Rattle.cw_types.specs.declared.ids.Item.{Item}
@@ -21,7 +21,7 @@ use Rattle.cw_model.specs.Fences.{StandingFence}
 use Rattle.cw_model.specs.Committed.{is_task, batches_of, BatchAgrees}
 use Rattle.cw_model.specs.ConfigsAllowed.{AreAllowedConfigs}
 use Rattle.cw_model.specs.Lookups.{joined, offset_records, offset_tag, offset_mark, next_behind}
-use Rattle.cw_model.specs.Bodies.{configs_in, statuses_in}
+use Rattle.cw_model.specs.Bodies.{config_in, configs_in, status_in, statuses_in}
 use Rattle.cw_model.specs.Allowed.{EachFrom, IsKnown, IsAllowedMark, IsAllowedOffset, IsAllowedData}
 
 -- the records that stand in the config log
@@ -109,6 +109,9 @@ TasksAgree feeds entries log = AllByRecursion (λ batch. is_task batch.tag.tid �
 
 -- the facts of the logs
 pub record LogFacts {J : Type 0} (setting : Setting) (s : Cluster J) : Type 0 where
+  -- each record that stands is read: a compaction, which goes by keys alone, needs it
+  pub configs_read : AllByRecursion (λ a. IsSome (config_in a)) (joined s.config.frames)
+  pub statuses_read : AllByRecursion (λ a. IsSome (status_in a)) (joined s.status.frames)
   pub configs : ConfigFacts (standing_configs s) s.configs s.entries
   pub statuses : StatusFacts (standing_statuses s) s.statuses
   -- each entry is allowed behind those before it: `raw_commit` needs it, since a script's producer numbers its transactions by their places

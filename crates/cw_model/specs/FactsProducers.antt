@@ -1,20 +1,19 @@
 -- The facts of producers by which each commits what goes on from what is committed, once, whatever happens next: what an instance is like that isn't
 -- fenced, and which transactions it may still write (KIP-618, KIP-98). They are this project's own.
 use Rattle.std.specs.Prelude.{◌≡◌, ◌≢◌, ℕ, ◌<◌, ◌≤◌, ◌+◌, ◌&&◌, Bool, true, false, not, List, [], ◌∷◌, ◌++◌, length, map, Option, Some, None, slice_get}
-use Rattle.std.specs.Option.{option_map_or}
 use Rattle.std.specs.List.{filter, filter_map, zip, AllByRecursion}
 use Rattle.cw_types.specs.declared.ids.Item.TheVariants.{Task}
 use Rattle.cw_types.specs.declared.ids.Tid.TheVariants as producer
 use Rattle.cw_types.specs.declared.ids.TaskId.{TaskId}
 use Rattle.cw_types.specs.declared.ids.Tag.{Tag}
-use Rattle.cw_config.specs.View.{generation_of, fenced_count_of, task_of}
+use Rattle.cw_config.specs.View.{generation_of, fenced_count_of}
 use Rattle.cw_txn.specs.declared.entry.Entry.{Entry}
 use Rattle.cw_txn.specs.declared.entry.Entry.TheVariants.{Bump, Commit, Set}
 use Rattle.cw_txn.specs.Same.{same_tid, same_tag}
 use Rattle.cw_data.specs.declared.entry.Batch.{Batch}
 use Rattle.cw_feed.specs.Yield.{Yield}
 use Rattle.cw_io.specs.Shelf.{Files}
-use Rattle.cw_plugin.specs.Tasks.{parts_at, ShareNone}
+use Rattle.cw_plugin.specs.Tasks.{ShareNone}
 use Rattle.cw_model.specs.declared.row.Fencing.{Fencing}
 use Rattle.cw_model.specs.declared.instance.Cut.{Cut}
 use Rattle.cw_model.specs.declared.instance.Instance.{Instance}
@@ -22,7 +21,9 @@ use Rattle.cw_model.specs.declared.instance.InstancePhase.{InstancePhase}
 use Rattle.cw_model.specs.declared.instance.InstancePhase.TheVariants as phase
 use Rattle.cw_model.specs.State.{Cluster, Setting}
 use Rattle.cw_model.specs.Lookups.{row_of, instance_of, last_epoch, end_or_start}
-use Rattle.cw_model.specs.Tasks.{parts_of}
+use Rattle.cw_model.specs.Tasks.{parts_of, count_of}
+use Rattle.cw_model.specs.EventsItems.{spec_in}
+use Rattle.cw_model.specs.EventsSources.{ends_badly}
 use Rattle.cw_model.specs.Fences.{fenced_generation_of}
 use Rattle.cw_model.specs.Committed.{batches_of}
 
@@ -136,6 +137,8 @@ pub record HasItsBatch (feeds : Files) (batches : List Batch) (tag : Tag) (i : I
   pub cut_begins : cut.from ≡ batch.from
   pub cut_ends : cut.to ≡ batch.to
   pub some : batch.from < batch.to
+  -- it ends where the part has a record's end: `put_offsets` needs it, whose record tells that place
+  pub whole : ends_badly feeds batch.part (count_of i) batch.to ≡ false
   pub yields : Yield feeds batch.part batch.from batch.to batch.values
 
 -- the leader whose epoch is the last one is fencing the older producers of a connector (KIP-618)
@@ -160,9 +163,9 @@ pub record ProducerFacts {J : Type 0} (setting : Setting) (s : Cluster J) : Type
   -- no other one reads its parts, so that its positions stay the ends
   pub apart : (m n : ℕ) (a b : TaskId) → m ≢ n → IsUnfenced s m a → IsUnfenced s n b → a.connector ≡ b.connector →
       ShareNone (parts_of (instance_of m s)) (parts_of (instance_of n s))
-  -- an instance of the newest generation has the parts of its task's config: `verify` needs it, since the configs of one commit share no part
-  pub parts : (n : ℕ) (id : TaskId) → IsNewest s n id →
-      option_map_or (parts_at id.connector) (task_of id s.configs) [] ≡ parts_of (instance_of n s)
+  -- an instance of the newest generation does what its task's config asks: `verify` needs it, since the configs of one commit share no part, and what is
+  -- quiet is done by it
+  pub task : (n : ℕ) (id : TaskId) → IsNewest s n id → spec_in s.configs id ≡ (instance_of n s).task
   -- while its transaction is open, the data log has one batch of it, which is what it would commit: `commit` needs it, which writes the span of the cut. It
   -- is so of an instance that is fenced, too
   pub one_batch : (n : ℕ) (id : TaskId) (epoch : ℕ) → Writes s n id epoch → has_open_transaction (instance_of n s).phase ≡ true →

@@ -48,7 +48,7 @@ producers setting = record {
   counted = λ n id unfenced. absurd (unlike unfenced.verified);
   positions = λ n id unfenced fetched. absurd (unlike unfenced.verified);
   apart = λ m n a b other unfenced. absurd (unlike unfenced.verified);
-  parts = λ n id newest. absurd (no_task n id newest.is_task);
+  task = λ n id newest. absurd (no_task n id newest.is_task);
   one_batch = λ n id epoch writes. absurd (no_task n id writes.is_task);
   fencing = λ w n fencing id is_fencing unfenced. absurd (unlike unfenced.verified);
   not_ahead = λ n id newest. absurd (no_task n id newest.is_task);
@@ -83,6 +83,8 @@ configs = record {
 logs : (setting : Setting) → LogFacts setting empty_cluster
 unfolding IsDistinct
 logs setting = record {
+  configs_read = tt;
+  statuses_read = tt;
   configs = configs;
   statuses = record { allowed = tt; standing_allowed = tt; end = refl; latest = λ item. refl };
   entries = tt;
