@@ -5,6 +5,9 @@ ghost use Rattle.cw_bytes.specs.Spelling.{word, long, text, IsText};
 use std::alloc::{AllocError, Global};
 use std::marker::Model;
 
+// Room for so many bytes is made at once, so that a short field or body doesn't grow step by step.
+pub(crate) const SHORT: usize = 64;
+
 /// Writes fields one behind the other. After want of memory it has the bytes that it had.
 #[derive(Debug, Drop)]
 pub struct Writer {
@@ -72,6 +75,7 @@ impl Writer {
         ensures ok { OnOk result (self.new ≡ self.old ++ field.now) }
         ensures err { OnErr result (self.new ≡ self.old) }
     {
+        self.bytes.reserve(field.len().max(SHORT))?;
         self.bytes.extend_from_slice(field)
     }
 

@@ -5,7 +5,7 @@ ghost use Rattle.cw_types.specs.Name.{IsName};
 
 use crate::applied::Applied;
 use crate::mark::Mark;
-use crate::writer::{Writer, add_text, add_u32, add_u64};
+use crate::writer::{SHORT, Writer, add_text, add_u32, add_u64};
 use cw_types::{Name, PartKey, Span, Tag, Tid};
 use std::alloc::AllocError;
 
@@ -15,7 +15,7 @@ pub fn write_tid(into: &mut Writer, tid: &Tid) -> Result<(), AllocError>
     ensures err { OnErr result (into.new ≡ into.old) }
     ensures fits { OnOk result (IsTid tid.now) }
 {
-    let mut field = Vec::new(into.alloc());
+    let mut field = Vec::with_capacity(into.alloc(), SHORT)?;
     add_tid(&mut field, tid)?;
     into.put(field.as_slice())
 }
@@ -26,7 +26,7 @@ pub fn write_tag(into: &mut Writer, tag: &Tag) -> Result<(), AllocError>
     ensures err { OnErr result (into.new ≡ into.old) }
     ensures fits { OnOk result (IsTag tag.now) }
 {
-    let mut field = Vec::new(into.alloc());
+    let mut field = Vec::with_capacity(into.alloc(), SHORT)?;
     add_tag(&mut field, tag)?;
     into.put(field.as_slice())
 }
@@ -37,7 +37,7 @@ pub fn write_mark(into: &mut Writer, mark: &Mark) -> Result<(), AllocError>
     ensures err { OnErr result (into.new ≡ into.old) }
     ensures fits { OnOk result (IsMark mark.now) }
 {
-    let mut field = Vec::new(into.alloc());
+    let mut field = Vec::with_capacity(into.alloc(), SHORT)?;
     add_tag(&mut field, &mark.tag)?;
     add_flag(&mut field, mark.committed)?;
     into.put(field.as_slice())
@@ -49,7 +49,7 @@ pub fn write_part(into: &mut Writer, part: &PartKey) -> Result<(), AllocError>
     ensures err { OnErr result (into.new ≡ into.old) }
     ensures fits { OnOk result (IsPart part.now) }
 {
-    let mut field = Vec::new(into.alloc());
+    let mut field = Vec::with_capacity(into.alloc(), SHORT)?;
     add_part(&mut field, part)?;
     into.put(field.as_slice())
 }
@@ -60,7 +60,7 @@ pub fn write_span(into: &mut Writer, span: &Span) -> Result<(), AllocError>
     ensures err { OnErr result (into.new ≡ into.old) }
     ensures fits { OnOk result (IsSpan span.now) }
 {
-    let mut field = Vec::new(into.alloc());
+    let mut field = Vec::with_capacity(into.alloc(), SHORT)?;
     add_part(&mut field, &span.part)?;
     add_u64(&mut field, span.from)?;
     add_u64(&mut field, span.to)?;

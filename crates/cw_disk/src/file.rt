@@ -7,7 +7,8 @@ ghost use Rattle.cw_disk.specs.Untold.{untold};
 use crate::{Disk, Disks, Failed, Memory};
 use cw_types::DiskName;
 use std::fs::{Files, OpenFile, OpenOptions};
-use std::io::{ErrorKind, Read, Seek, SeekFrom, Write};
+use std::io::ErrorKind;
+use std::os::unix::fs::FileExt;
 use std::{fs, io};
 
 // The folder of the eight files.
@@ -54,19 +55,13 @@ fn open_file<R: Files>(files: &R, path: &str) -> io::Result<R::File> {
 }
 
 // As much of `into` as the file has from `at` on.
-fn get<F: Read + Seek + OpenFile>(file: &mut F, at: u64, into: &mut [u8]) -> io::Result<usize>
+fn get<F: FileExt + OpenFile>(file: &F, at: u64, into: &mut [u8]) -> io::Result<usize>
     ensures { IfOk result (λ n. n ≤ length into.old) }
 {
     let there = file.metadata()?.len().saturating_sub(at);
     let n = there.min(into.len() as u64) as usize;
-    file.seek(SeekFrom::Start(at))?;
-    file.read_exact(&mut into[..n])?;
+    file.read_exact_at(&mut into[..n], at)?;
     Ok(n)
-}
-
-fn put<F: Write + Seek>(file: &mut F, at: u64, from: &[u8]) -> io::Result<()> {
-    file.seek(SeekFrom::Start(at))?;
-    file.write_all(from)
 }
 
 impl<R: Files> FileDisk<R> {
@@ -113,7 +108,10 @@ fn opened<R: Files>(
     counted(count, open_file(files, path_of(name)))
 }
 
-impl<R: Files> Disk for FileDisk<R> {
+impl<R: Files> Disk for FileDisk<R>
+where
+    R::File: FileExt,
+{
     ghost holds = { λ d. None };
 
     ghost may_leave = { λ d image. ⊥ };
@@ -144,8 +142,8 @@ impl<R: Files> Disk for FileDisk<R> {
     }
 
     fn read_at(&mut self, at: u64, into: &mut [u8]) -> Result<usize, Failed> {
-        let mut file = opened(&self.files, self.name, &mut self.file, &mut self.count)?;
-        let done = get(&mut file, at, into);
+        let file = opened(&self.files, self.name, &mut self.file, &mut self.count)?;
+        let done = get(&file, at, into);
         self.file = Some(file);
         counted(&mut self.count, done)
     }
@@ -156,8 +154,8 @@ impl<R: Files> Disk for FileDisk<R> {
     }
 
     fn write_at(&mut self, at: u64, from: &[u8]) -> Result<(), Failed> {
-        let mut file = opened(&self.files, self.name, &mut self.file, &mut self.count)?;
-        let done = put(&mut file, at, from);
+        let file = opened(&self.files, self.name, &mut self.file, &mut self.count)?;
+        let done = file.write_all_at(from, at);
         self.file = Some(file);
         counted(&mut self.count, done)
     }
