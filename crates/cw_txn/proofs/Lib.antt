@@ -13,7 +13,7 @@ pub mod DistinctParts
 pub mod Bodies
 pub mod Written
 pub mod AllowedLemmas
-pub mod Broken
+pub mod SpanTests
 pub mod WalkLemmas
 pub mod Noted
 pub mod Mapped

@@ -1,5 +1,5 @@
 -- What one walk over a list of entries finds. Internal but for what the faults of a list say.
-use Rattle.std.specs.Prelude.{◌≡◌, ℕ, Bool, true, false, List, ◌∷◌, ◌++◌, All, Option, Some, None, is_some}
+use Rattle.std.specs.Prelude.{◌≡◌, ℕ, Bool, true, false, List, ◌∷◌, ◌++◌, Option, Some, None, is_some}
 use Rattle.std.specs.BTreeMap.{BTreeMap, get}
 use Rattle.std.specs.List.{list_any}
 use Rattle.cw_types.specs.declared.ids.PartKey.{PartKey}
@@ -11,7 +11,7 @@ use Rattle.cw_txn.specs.declared.tables.Tables.{Tables}
 use Rattle.cw_txn.specs.declared.replay.ListFault.{ListFault}
 use Rattle.cw_txn.specs.declared.replay.ListFault.TheVariants.{NotAllowed, Unchained, Memory}
 use Rattle.cw_txn.specs.Same.{same_part}
-use Rattle.cw_txn.specs.History.{GoesOn}
+use Rattle.cw_txn.specs.History.{SpansChain}
 use Rattle.cw_txn.specs.Legal.{Chains, ChainsBehind}
 use Rattle.cw_txn.specs.Allowed.{AreAllowed, IsFirstUnchained}
 use Rattle.cw_txn.specs.Tables.{Keeps, history_at, part_order}
@@ -32,18 +32,10 @@ abbrev pub IsChainTest : List Entry → Entry → Bool → Type 0
 IsChainTest before entry true = (part : PartKey) → ChainsBehind part before entry
 IsChainTest before entry false = (part : PartKey) × (¬ ChainsBehind part before entry)
 
--- a span that doesn't go on from where its part ends in this table
-pub record HasBreak (parts : BTreeMap PartKey History) (spans : List Span) : Type 0 where
-  pub front : List Span
-  pub span : Span
-  pub back : List Span
-  pub split : spans ≡ front ++ span ∷ back
-  pub broken : ¬ GoesOn (history_at parts span.part) span
-
--- whether each span goes on
+-- whether the spans of every part chain behind what this table says of it, or those of one part don't
 abbrev pub IsSpanTest : BTreeMap PartKey History → List Span → Bool → Type 0
-IsSpanTest parts spans true = All (λ span. GoesOn (history_at parts span.part) span) spans
-IsSpanTest parts spans false = HasBreak parts spans
+IsSpanTest parts spans true = (part : PartKey) → SpansChain part (history_at parts part) spans
+IsSpanTest parts spans false = (part : PartKey) × (¬ SpansChain part (history_at parts part) spans)
 
 -- these entries are allowed, the tables are theirs, and this is the first that doesn't chain
 pub record Walked (tables : Tables) (entries : List Entry) (unchained : Option ℕ) : Type 0 where

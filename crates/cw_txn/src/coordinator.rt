@@ -178,7 +178,7 @@ impl Coordinator {
     fn goes_on(&self, span: &Span) -> bool
         ensures { IsTrue result ↔ GoesOn (history span.now.part self.now.entries) span.now }
     {
-        span.from == self.end_of(&span.part).unwrap_or(0) && span.from < span.to
+        self.tables.history(&span.part).goes_on(span)
     }
 
     /// Makes room for an entry, so that writing it once can't want memory.

@@ -1,17 +1,13 @@
 //! One walk over a list of entries, which fills the tables of a coordinator.
-ghost use Rattle.std.specs.Prelude.{◌≡◌, ◌↔◌, ◌+◌, ◌<◌, ◌++◌, ◌∷◌, ⊤, IsTrue, IfOk, IfErr, OnOk, [], List, length, take, None};
-ghost use Rattle.cw_types.specs.declared.ids.PartKey.{PartKey};
+ghost use Rattle.std.specs.Prelude.{◌≡◌, ◌+◌, ◌<◌, ◌++◌, ◌∷◌, ⊤, IfOk, IfErr, OnOk, [], List, length, take, None};
 ghost use Rattle.cw_txn.specs.declared.entry.Entry.{Entry};
-ghost use Rattle.cw_txn.specs.Legal.{Chains};
-ghost use Rattle.cw_txn.specs.History.{GoesOn};
-ghost use Rattle.cw_txn.specs.Allowed.{AreAllowed, IsAllowedBehind, IsFirstNotAllowed, IsFirstUnchained};
-ghost use Rattle.cw_txn.specs.Tables.{Keeps, history_at};
-ghost use Rattle.cw_txn.specs.Walk.{OnListFault, ChainsUpTo, IsChainTest, IsSpanTest, Walked};
+ghost use Rattle.cw_txn.specs.Allowed.{AreAllowed, IsFirstNotAllowed, IsFirstUnchained};
+ghost use Rattle.cw_txn.specs.Tables.{Keeps};
+ghost use Rattle.cw_txn.specs.Walk.{OnListFault, ChainsUpTo, IsChainTest, Walked};
 
 use crate::allowed::is_allowed;
 use crate::entry::Entry;
 use crate::tables::Tables;
-use cw_types::Span;
 use std::alloc::{AllocError, Global};
 
 /// Why a list of entries is none that a coordinator holds. Places are counted from 0.
@@ -70,58 +66,22 @@ fn step(
     if !is_allowed(alloc, tables, place, entry)? {
         return Err(ListFault::NotAllowed(place as u64));
     }
-    let after = first_unchained(tables, unchained, place, entry);
-    tables.put(entry)?;
-    Ok(after)
+    let chains = tables.put(entry)?;
+    Ok(first_unchained(unchained, place, chains))
 }
 
-// The first place where a part doesn't chain, with one entry more.
-fn first_unchained(
-    tables: &Tables,
-    unchained: Option<u64>,
-    place: usize,
-    entry: &Entry,
-) -> Option<u64>
-    ensures { (before : List Entry) → Keeps tables.now before → length before ≡ place → IsAllowedBehind before entry.now →
-        ChainsUpTo before unchained → ChainsUpTo (before ++ entry.now ∷ []) result }
+// The first place where a part doesn't chain, with one entry more, at which every part does or one doesn't.
+fn first_unchained(unchained: Option<u64>, place: usize, chains: bool) -> Option<u64>
+    ensures { (before : List Entry) (entry : Entry) → length before ≡ place → IsChainTest before entry chains →
+        ChainsUpTo before unchained → ChainsUpTo (before ++ entry ∷ []) result }
 {
     match unchained {
         Some(first) => Some(first),
         None => {
-            if chains(tables, entry) {
+            if chains {
                 return None;
             }
             Some(place as u64)
         }
     }
-}
-
-// Whether every part chains at an entry.
-fn chains(tables: &Tables, entry: &Entry) -> bool
-    ensures { (before : List Entry) → Keeps tables.now before → IsAllowedBehind before entry.now → IsChainTest before entry.now result }
-{
-    match entry {
-        Entry::Bump(_) => true,
-        Entry::Commit { spans, .. } => all_go_on(tables, spans.as_slice()),
-        Entry::Set { .. } => true,
-    }
-}
-
-// Whether each span begins where its part ends.
-fn all_go_on(tables: &Tables, spans: &[Span]) -> bool
-    ensures { IsSpanTest tables.now.parts spans.now result }
-{
-    for at in 0..spans.len() {
-        if !goes_on(tables, &spans[at]) {
-            return false;
-        }
-    }
-    true
-}
-
-fn goes_on(tables: &Tables, span: &Span) -> bool
-    ensures { IsTrue result ↔ GoesOn (history_at tables.now.parts span.now.part) span.now }
-{
-    let end = tables.history(&span.part).end;
-    span.from == end.unwrap_or(0) && span.from < span.to
 }

@@ -1,11 +1,11 @@
 //! What the coordinator keeps of its list, so that no look-up walks it.
-ghost use Rattle.std.specs.Prelude.{◌≡◌, ◌<◌, ◌+◌, ◌^◌, ◌-◌, ◌++◌, ◌∷◌, ◌&&◌, [], IfOk, OnOk, IsSome, Some, All, List, is_some, if◌then◌else◌};
+ghost use Rattle.std.specs.Prelude.{◌≡◌, ◌↔◌, ◌<◌, ◌+◌, ◌^◌, ◌-◌, ◌++◌, ◌∷◌, ◌&&◌, [], IfOk, OnOk, IsSome, IsTrue, Some, All, List, is_some, if◌then◌else◌};
 ghost use Rattle.std.specs.List.{fold};
 ghost use Rattle.std.specs.BTreeMap.{get, is_at, BTreeMap};
 ghost use Rattle.cw_types.specs.declared.ids.Tid.{Tid};
 ghost use Rattle.cw_types.specs.declared.ids.PartKey.{PartKey};
 ghost use Rattle.cw_txn.specs.declared.entry.Entry.{Entry};
-ghost use Rattle.cw_txn.specs.History.{after_span, after_offset};
+ghost use Rattle.cw_txn.specs.History.{after_span, after_offset, GoesOn};
 
 use crate::commits::Commits;
 use crate::entry::{Entry, EntryRef, SetOffset};
@@ -25,6 +25,13 @@ pub struct History {
 
 impl History {
     const UNSET: History = History { base: 0, end: None };
+
+    // Whether a span begins where this part ends, at 0 where it has no end, and isn't empty.
+    pub fn goes_on(self, span: &Span) -> bool
+        ensures { IsTrue result ↔ GoesOn self span.now }
+    {
+        span.from == self.end.unwrap_or(0) && span.from < span.to
+    }
 }
 
 // The epoch of each producer, the committed transactions, and the history of each part.
@@ -38,6 +45,7 @@ pub struct Tables {
 impl Tables {
     ghost use Rattle.cw_txn.specs.Committed.{committed_at};
     ghost use Rattle.cw_txn.specs.Tables.{epoch_at, history_at, entry_of, parts_in, part_order, Keeps, HasRows, KeepsRows, SameRows};
+    ghost use Rattle.cw_txn.specs.Walk.{IsChainTest};
     ghost use Rattle.std.specs.BTreeMap.{IsOrdered};
 
     pub fn new(alloc: Global) -> Tables
@@ -103,19 +111,21 @@ impl Tables {
         }
     }
 
-    // One entry more, and the rows that it changes. An `Err` may leave a part of it.
-    pub fn put(&mut self, entry: &Entry) -> Result<(), AllocError>
+    // One entry more, and the rows that it changes. It says whether every part chains at the entry, which is found on the
+    // way, so that each part is looked up once. An `Err` may leave a part of it.
+    pub fn put(&mut self, entry: &Entry) -> Result<bool, AllocError>
         requires { (tid : Tid) → epoch_at self.old.epochs tid + 1 < 2 ^ 64 }
-        ensures { OnOk result ((entries : List Entry) → Keeps self.old entries → Keeps self.new (entries ++ entry.now ∷ [])) }
+        ensures kept { OnOk result ((entries : List Entry) → Keeps self.old entries → Keeps self.new (entries ++ entry.now ∷ [])) }
+        ensures chains { IfOk result (λ chains. (entries : List Entry) → Keeps self.old entries → IsChainTest entries entry.now chains) }
     {
         if let Entry::Commit { tag, spans, .. } = entry {
             self.committed.put(tag.copy()?)?;
-            put_ends(&mut self.parts, spans.as_slice())?;
-            return Ok(());
+            let chains = put_ends(&mut self.parts, spans.as_slice())?;
+            return Ok(chains);
         }
         self.make_rows(&EntryRef::of(entry))?;
         self.add(entry);
-        Ok(())
+        Ok(true)
     }
 
     // One entry more.
@@ -140,6 +150,7 @@ impl Tables {
 }
 
 ghost use Rattle.cw_txn.specs.Tables.{epoch_at, history_at, tid_order, part_order, is_of, HasPart};
+ghost use Rattle.cw_txn.specs.Walk.{IsSpanTest};
 ghost use Rattle.std.specs.Str.{bytes_eq};
 
 pub fn is_of(part: &PartKey, connector: &Name) -> bool
@@ -220,32 +231,36 @@ fn move_end(parts: &mut BTreeMap<PartKey, History>, span: &Span)
     ensures moved { (part : PartKey) → history_at parts.new part ≡ after_span part (history_at parts.old part) span.now }
     ensures kept { (q : PartKey) → HasPart parts.old q → HasPart parts.new q }
 {
-    let _ = has_moved(parts, span);
+    let _ = move_row(parts, span);
 }
 
-// Moves the end of a part that has a row, and says whether it has one.
-fn has_moved(parts: &mut BTreeMap<PartKey, History>, span: &Span) -> bool
-    ensures there { result ≡ is_some (get part_order parts.old span.now.part) }
-    ensures moved { (q : PartKey) → get part_order parts.new q ≡ (if result && is_at (part_order span.now.part) q then Some (record { base = (history_at parts.old span.now.part).base; end = Some span.now.to }) else get part_order parts.old q) }
+// Moves the end of a part that has a row, and gives what the row was.
+fn move_row(parts: &mut BTreeMap<PartKey, History>, span: &Span) -> Option<History>
+    ensures before { result ≡ get part_order parts.old span.now.part }
+    ensures moved { (q : PartKey) → get part_order parts.new q ≡ (if is_some result && is_at (part_order span.now.part) q then Some (record { base = (history_at parts.old span.now.part).base; end = Some span.now.to }) else get part_order parts.old q) }
 {
     match parts.get_mut(&span.part) {
         Some(row) => {
-            *row = ended(*row, span);
-            true
+            let before = *row;
+            *row = ended(before, span);
+            Some(before)
         }
-        None => false,
+        None => None,
     }
 }
 
-// The end of a part moves to its span's, in its row or in a new one.
-fn put_end(parts: &mut BTreeMap<PartKey, History>, span: &Span) -> Result<(), AllocError>
-    ensures { OnOk result ((part : PartKey) → history_at parts.new part ≡ after_span part (history_at parts.old part) span.now) }
+// The end of a part moves to its span's, in its row or in a new one; it says whether the span goes on from where it was.
+fn put_end(parts: &mut BTreeMap<PartKey, History>, span: &Span) -> Result<bool, AllocError>
+    ensures moved { OnOk result ((part : PartKey) → history_at parts.new part ≡ after_span part (history_at parts.old part) span.now) }
+    ensures goes_on { IfOk result (λ goes_on. IsTrue goes_on ↔ GoesOn (history_at parts.old span.now.part) span.now) }
 {
-    if has_moved(parts, span) {
-        return Ok(());
+    match move_row(parts, span) {
+        Some(before) => Ok(before.goes_on(span)),
+        None => {
+            parts.insert(span.part.copy()?, ended(History::UNSET, span))?;
+            Ok(History::UNSET.goes_on(span))
+        }
     }
-    parts.insert(span.part.copy()?, ended(History::UNSET, span))?;
-    Ok(())
 }
 
 // A part's history with its end at a span's.
@@ -258,13 +273,17 @@ fn ended(history: History, span: &Span) -> History
     }
 }
 
-fn put_ends(parts: &mut BTreeMap<PartKey, History>, spans: &[Span]) -> Result<(), AllocError>
-    ensures { OnOk result ((part : PartKey) → history_at parts.new part ≡ fold (after_span part) (history_at parts.old part) spans.now) }
+// The end of each span's part, one after the other; it says whether every part chains.
+fn put_ends(parts: &mut BTreeMap<PartKey, History>, spans: &[Span]) -> Result<bool, AllocError>
+    ensures moved { OnOk result ((part : PartKey) → history_at parts.new part ≡ fold (after_span part) (history_at parts.old part) spans.now) }
+    ensures chains { IfOk result (IsSpanTest parts.old spans.now) }
 {
+    let mut chains = true;
     for span in spans {
-        put_end(parts, span)?;
+        let goes_on = put_end(parts, span)?;
+        chains = chains && goes_on;
     }
-    Ok(())
+    Ok(chains)
 }
 
 fn move_ends(parts: &mut BTreeMap<PartKey, History>, spans: &[Span])

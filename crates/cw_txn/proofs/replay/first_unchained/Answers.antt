@@ -4,12 +4,12 @@ use Rattle.cw_txn.proofs.WalkLemmas.{still_chains, still_first, first_here}
 use Rattle.cw_txn.proofs.replay.first_unchained.Goals as goal
 
 pub returns-in-Some : goal.returns-in-Some
-returns-in-Some c before kept place allowed upto = still_first before c.args.entry.now c.in-Some.first (subst (ChainsUpTo before) c.in-Some.is upto)
+returns-in-Some c before entry place test upto = still_first before entry c.in-Some.first (subst (ChainsUpTo before) c.in-Some.is upto)
 
 pub returns-then-chains : goal.returns-then-chains
-returns-then-chains c before kept place allowed upto = still_chains before c.args.entry.now (subst (ChainsUpTo before) c.in-None.is upto)
-    (subst (IsChainTest before c.args.entry.now) c.if-chains.true (c.chains.ensures before kept allowed))
+returns-then-chains c before entry place test upto = still_chains before entry (subst (ChainsUpTo before) c.in-None.is upto)
+    (subst (IsChainTest before entry) c.if-chains.true test)
 
 pub returns-else-chains : goal.returns-else-chains
-returns-else-chains c before kept place allowed upto = first_here before c.args.entry.now c.args.place place (subst (ChainsUpTo before) c.in-None.is upto)
-    (subst (IsChainTest before c.args.entry.now) c.if-chains.false (c.chains.ensures before kept allowed))
+returns-else-chains c before entry place test upto = first_here before entry c.args.place place (subst (ChainsUpTo before) c.in-None.is upto)
+    (subst (IsChainTest before entry) c.if-chains.false test)

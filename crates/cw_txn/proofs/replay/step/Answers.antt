@@ -18,5 +18,5 @@ returns-clause-walked c =
     let place = short entries c.args.place c.index-entries-place.result c.requires.within c.index-entries-place.is in
     let allowed : IsAllowedBehind before c.index-entries-place.result = (c.in_ok-is_allowed.ensures before c.requires.walked.kept place).0 c.if-not-branch.false in
     walked_on entries c.args.place c.index-entries-place.result c.requires.within c.index-entries-place.is
-    c.args.tables.now c.put.new.self c.args.unchained c.first_unchained-after.result c.requires.walked allowed
-    c.in_ok-put.ensures (c.first_unchained-after.ensures before c.requires.walked.kept place allowed)
+    c.args.tables.now c.put.new.self c.args.unchained c.first_unchained.result c.requires.walked allowed
+    c.in_ok-chains.ensures.kept (c.first_unchained.ensures before c.index-entries-place.result place (c.in_ok-chains.ensures.chains before c.requires.walked.kept))
