@@ -20,9 +20,9 @@ use Rattle.cw_txn.proofs.SameLemmas.{tid_at, same_tid-flip, same_tid-Decides}
 use Rattle.cw_txn.proofs.RowLemmas.{value-moved}
 use Rattle.cw_txn.proofs.Walks.{epoch_of-push, is_committed-push, history-push}
 
-raised : (b : Bool) (n : ℕ) → cond b (n + 1) n ≡ n + cond b 1 0
-raised true n = refl
-raised false n = omega arith
+one_more : (b : Bool) (n : ℕ) → cond b (n + 1) n ≡ n + cond b 1 0
+one_more true n = refl
+one_more false n = omega arith
 
 found : (a b : Bool) → cond b true a ≡ (a || b)
 found true true = refl
@@ -35,12 +35,10 @@ or_no true = refl
 or_no false = refl
 
 module _ (old : Tables) (entries : List Entry) (kept : Keeps old entries) where
-  pub keeps_bump : (epochs : BTreeMap Tid ℕ) (tid : Tid) (epoch : ℕ) → epoch ≡ epoch_at old.epochs tid
-      → ((q : Tid) → get tid_order epochs q ≡ cond (is_at (tid_order tid) q) (Some (epoch + 1)) (get tid_order old.epochs q))
+  pub keeps_bump : (epochs : BTreeMap Tid ℕ) (tid : Tid) → ((q : Tid) → epoch_at epochs q ≡ cond (same_tid q tid) (epoch_at old.epochs q + 1) (epoch_at old.epochs q))
       → Keeps (record { epochs = epochs; committed = old.committed; parts = old.parts }) (entries ++ Bump tid ∷ [])
-  keeps_bump epochs tid epoch is set = record {
-    epochs = λ q. value-moved tid_order same_tid tid_at same_tid-flip same_tid-Decides 0 old.epochs epochs tid (epoch + 1) set (λ n. n + 1) (ap (λ n. n + 1) is) q
-        ∙ raised (same_tid q tid) (epoch_at old.epochs q) ∙ ap (λ n. n + cond (same_tid q tid) 1 0) (kept.epochs q) ∙ sym (epoch_of-push q entries (Bump tid));
+  keeps_bump epochs tid raised = record {
+    epochs = λ q. raised q ∙ one_more (same_tid q tid) (epoch_at old.epochs q) ∙ ap (λ n. n + cond (same_tid q tid) 1 0) (kept.epochs q) ∙ sym (epoch_of-push q entries (Bump tid));
     committed = λ q. kept.committed q ∙ sym (is_committed-push q entries (Bump tid) ∙ or_no (is_committed q entries));
     parts = λ q. kept.parts q ∙ sym (history-push q entries (Bump tid));
   }

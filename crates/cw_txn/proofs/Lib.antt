@@ -1,7 +1,7 @@
 pub mod SameLemmas
 pub mod RowLemmas
 pub mod CommitLemmas
-pub mod PartLemmas
+pub mod MovedRows
 pub mod Walks
 pub mod Kept
 pub mod Equals

@@ -118,14 +118,22 @@ impl Tables {
         ensures kept { OnOk result ((entries : List Entry) → Keeps self.old entries → Keeps self.new (entries ++ entry.now ∷ [])) }
         ensures chains { IfOk result (λ chains. (entries : List Entry) → Keeps self.old entries → IsChainTest entries entry.now chains) }
     {
-        if let Entry::Commit { tag, spans, .. } = entry {
-            self.committed.put(tag.copy()?)?;
-            let chains = put_ends(&mut self.parts, spans.as_slice())?;
-            return Ok(chains);
+        match entry {
+            Entry::Bump(tid) => {
+                put_bump(&mut self.epochs, tid)?;
+                Ok(true)
+            }
+            Entry::Commit { tag, spans, .. } => {
+                self.committed.put(tag.copy()?)?;
+                let chains = put_ends(&mut self.parts, spans.as_slice())?;
+                Ok(chains)
+            }
+            Entry::Set { .. } => {
+                self.make_rows(&EntryRef::of(entry))?;
+                self.add(entry);
+                Ok(true)
+            }
         }
-        self.make_rows(&EntryRef::of(entry))?;
-        self.add(entry);
-        Ok(true)
     }
 
     // One entry more.
@@ -137,8 +145,7 @@ impl Tables {
     {
         match entry {
             Entry::Bump(tid) => {
-                let epoch = self.epoch(tid);
-                set_row(&mut self.epochs, tid, epoch + 1);
+                let _ = raise_row(&mut self.epochs, tid);
             }
             Entry::Commit { tag, spans, .. } => {
                 self.committed.commit(tag);
@@ -151,6 +158,7 @@ impl Tables {
 
 ghost use Rattle.cw_txn.specs.Tables.{epoch_at, history_at, tid_order, part_order, is_of, HasPart};
 ghost use Rattle.cw_txn.specs.Walk.{IsSpanTest};
+ghost use Rattle.cw_txn.specs.Same.{same_tid};
 ghost use Rattle.std.specs.Str.{bytes_eq};
 
 pub fn is_of(part: &PartKey, connector: &Name) -> bool
@@ -188,6 +196,33 @@ fn make_epoch(epochs: &mut BTreeMap<Tid, u64>, tid: &Tid) -> Result<(), AllocErr
         return Ok(());
     }
     make_row(epochs, tid.copy()?, 0)
+}
+
+// Raises the epoch of a producer that has a row, and says whether it has one.
+fn raise_row(epochs: &mut BTreeMap<Tid, u64>, tid: &Tid) -> bool
+    requires { (q : Tid) → epoch_at epochs.old q + 1 < 2 ^ 64 }
+    ensures there { result ≡ is_some (get tid_order epochs.old tid.now) }
+    ensures raised { (q : Tid) → get tid_order epochs.new q ≡ (if result && is_at (tid_order tid.now) q then Some (epoch_at epochs.old tid.now + 1) else get tid_order epochs.old q) }
+{
+    match epochs.get_mut(tid) {
+        Some(epoch) => {
+            *epoch += 1;
+            true
+        }
+        None => false,
+    }
+}
+
+// The epoch of a producer is one higher, in its row or in a new one.
+fn put_bump(epochs: &mut BTreeMap<Tid, u64>, tid: &Tid) -> Result<(), AllocError>
+    requires { (q : Tid) → epoch_at epochs.old q + 1 < 2 ^ 64 }
+    ensures { OnOk result ((q : Tid) → epoch_at epochs.new q ≡ (if same_tid q tid.now then epoch_at epochs.old q + 1 else epoch_at epochs.old q)) }
+{
+    if raise_row(epochs, tid) {
+        return Ok(());
+    }
+    epochs.insert(tid.copy()?, 1)?;
+    Ok(())
 }
 
 fn make_part(parts: &mut BTreeMap<PartKey, History>, part: &PartKey) -> Result<(), AllocError>

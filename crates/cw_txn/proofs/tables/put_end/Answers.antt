@@ -1,5 +1,5 @@
 use Rattle.std.proofs.Common.{is_some, ap}
-use Rattle.cw_txn.proofs.PartLemmas.{moved_there, moved_in_new}
+use Rattle.cw_txn.proofs.MovedRows.{moved_there, moved_in_new}
 use Rattle.cw_txn.proofs.tables.put_end.Goals as goal
 
 pub returns-in-Some-clause-moved : goal.returns-in-Some-clause-moved

@@ -6,6 +6,7 @@ use Rattle.cw_txn.specs.declared.entry.SetOffset.{SetOffset}
 use Rattle.cw_txn.specs.History.{after_span}
 use Rattle.cw_txn.specs.Tables.{HasPart, HasRows, Keeps, history_at}
 use Rattle.cw_txn.proofs.Kept.{keeps_bump, keeps_commit}
+use Rattle.cw_txn.proofs.MovedRows.{raised_there}
 use Rattle.cw_txn.proofs.tables.Tables.add.Goals as goal
 
 pub move_ends-requires : goal.move_ends-requires
@@ -20,8 +21,10 @@ set_histories-requires c =
 
 pub returns-in-Bump-clause-kept : goal.returns-in-Bump-clause-kept
 returns-in-Bump-clause-kept c entries kept =
-    subst (λ (e : Entry). Keeps (record { epochs = c.set_row.new.table; committed = c.args.self.now.committed; parts = c.args.self.now.parts }) (entries ++ e ∷ [])) (sym c.in-Bump.is)
-    (keeps_bump c.args.self.now entries kept c.set_row.new.table c.in-Bump.tid c.epoch-epoch.result c.epoch-epoch.ensures c.set_row.ensures)
+    let row = subst (λ (e : Entry). HasRows c.args.self.now e) c.in-Bump.is c.requires.rows in
+    subst (λ (e : Entry). Keeps (record { epochs = c.raise_row.new.epochs; committed = c.args.self.now.committed; parts = c.args.self.now.parts }) (entries ++ e ∷ [])) (sym c.in-Bump.is)
+    (keeps_bump c.args.self.now entries kept c.raise_row.new.epochs c.in-Bump.tid
+    (raised_there c.args.self.now.epochs c.raise_row.new.epochs c.in-Bump.tid c.raise_row.result c.raise_row.ensures.there c.raise_row.ensures.raised (c.raise_row.ensures.there ∙ row)))
 
 pub returns-in-Commit-clause-kept : goal.returns-in-Commit-clause-kept
 returns-in-Commit-clause-kept c entries kept =

@@ -12,15 +12,15 @@ use Rattle.cw_txn.proofs.Kept.{keeps_commit}
 use Rattle.cw_txn.proofs.SpanTests.{chain_test}
 use Rattle.cw_txn.proofs.tables.Tables.put.Goals as goal
 
-pub returns-in-Commit-clause-kept : goal.returns-in-Commit-clause-kept
-returns-in-Commit-clause-kept c entries kept =
+pub returns-in_ok-chains-in-Commit-clause-kept : goal.returns-in_ok-chains-in-Commit-clause-kept
+returns-in_ok-chains-in-Commit-clause-kept c entries kept =
     subst (λ (e : Entry). Keeps (record { epochs = c.args.self.now.epochs; committed = c.put.new.self; parts = c.put_ends.new.parts }) (entries ++ e ∷ [])) (sym c.in-Commit.is)
     (keeps_commit c.args.self.now entries kept c.put.new.self c.put_ends.new.parts c.in-Commit.tag c.in-Commit.generation c.in-Commit.spans
-    (λ q. c.in_ok-put.ensures q ∙ ap (λ (t : Tag). cond (same_tag q t) true (committed_at c.args.self.now.committed q)) c.in_ok-copy.ensures)
-    (λ part. c.in_ok-chains.ensures.moved part ∙ ap (λ (l : List Span). fold (after_span part) (history_at c.args.self.now.parts part) l) c.as_slice.ensures))
+    (λ q. c.in_ok-put-in-Commit.ensures q ∙ ap (λ (t : Tag). cond (same_tag q t) true (committed_at c.args.self.now.committed q)) c.in_ok-copy-in-Commit.ensures)
+    (λ part. c.in_ok-chains-in-Commit.ensures.moved part ∙ ap (λ (l : List Span). fold (after_span part) (history_at c.args.self.now.parts part) l) c.as_slice.ensures))
 
-pub returns-in-Commit-clause-chains : goal.returns-in-Commit-clause-chains
-returns-in-Commit-clause-chains c entries kept =
-    subst (λ (e : Entry). IsChainTest entries e c.in_ok-chains.chains) (sym c.in-Commit.is)
-    (chain_test c.args.self.now entries kept c.in-Commit.tag c.in-Commit.generation c.in-Commit.spans c.in_ok-chains.chains
-    (subst (λ (l : List Span). IsSpanTest c.args.self.now.parts l c.in_ok-chains.chains) c.as_slice.ensures c.in_ok-chains.ensures.chains))
+pub returns-in_ok-chains-in-Commit-clause-chains : goal.returns-in_ok-chains-in-Commit-clause-chains
+returns-in_ok-chains-in-Commit-clause-chains c entries kept =
+    subst (λ (e : Entry). IsChainTest entries e c.in_ok-chains-in-Commit.chains) (sym c.in-Commit.is)
+    (chain_test c.args.self.now entries kept c.in-Commit.tag c.in-Commit.generation c.in-Commit.spans c.in_ok-chains-in-Commit.chains
+    (subst (λ (l : List Span). IsSpanTest c.args.self.now.parts l c.in_ok-chains-in-Commit.chains) c.as_slice.ensures c.in_ok-chains-in-Commit.ensures.chains))
