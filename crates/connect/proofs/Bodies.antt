@@ -10,7 +10,7 @@ use Rattle.cw_log.specs.declared.fault.Harm.TheVariants.{Magic, Version, Kind, H
 use Rattle.cw_log.specs.Log.{length_of}
 use Rattle.cw_txn.specs.declared.entry.Entry.{Entry}
 use Rattle.cw_txn.specs.Body.{AreEntries, entries_bytes}
-use Rattle.cw_txn.proofs.Walks.{cut_at}
+use Rattle.cw_types.proofs.Lists.{cut_at}
 use Rattle.connect.specs.declared.opening.Reading.{Reading}
 use Rattle.connect.specs.Store.{Hold}
 use Rattle.connect.specs.Harms.{gate_behind, IsReadable, HasUnreadable, IsGateOf, HasNotAllowed, HasUnchained, HasBodyHarm}

@@ -8,7 +8,7 @@ use Rattle.cw_types.specs.declared.ids.PartKey.TheVariants.{Raw}
 use Rattle.cw_types.specs.declared.ids.Tid.TheVariants.{Raw as RawId}
 use Rattle.cw_types.specs.declared.ids.Span.{Span}
 use Rattle.cw_txn.specs.declared.entry.Entry.{Entry}
-use Rattle.cw_txn.specs.Same.{same_part}
+use Rattle.cw_types.specs.Same.{same_part}
 use Rattle.cw_txn.specs.History.{history, GoesOn}
 use Rattle.cw_txn.specs.Legal.{epoch_of}
 use Rattle.cw_txn.specs.Allowed.{IsRaw}

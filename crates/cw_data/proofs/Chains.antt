@@ -1,6 +1,5 @@
 -- A topic's rows hold its records, one row behind the other.
-use Rattle.std.proofs.Common.{◌≡◌, ℕ, zero, suc, ◌+◌, ◌≤◌, Bool, true, false, not, cond, List, [], ◌∷◌, ◌++◌, length, take, drop, map, Option, None, Some, is_some, is_none, refl, sym, ap, subst, ◌∙◌, arith, append_assoc, length-append, add-zero}
-use Rattle.std.specs.Prelude.{slice_get}
+use Rattle.std.proofs.Common.{◌≡◌, ℕ, zero, suc, ◌+◌, ◌≤◌, Bool, true, false, cond, List, [], ◌∷◌, ◌++◌, length, take, drop, map, Option, None, Some, is_some, refl, sym, ap, subst, ◌∙◌, arith, append_assoc, length-append}
 use Rattle.std.specs.Bool.{⊤}
 use Rattle.std.specs.Str.{bytes_eq}
 use Rattle.std.specs.List.{flat_map, prefix_len, AllByRecursion}
@@ -11,7 +10,7 @@ use Rattle.cw_data.specs.declared.entry.DataEntry.{DataEntry}
 use Rattle.cw_data.specs.declared.entry.DataEntry.TheVariants.{Batch as InBatch, Mark}
 use Rattle.cw_data.specs.declared.topic.Row.{Row}
 use Rattle.cw_data.specs.Log.{Record, records_of, records_in, records}
-use Rattle.cw_data.specs.Rows.{Marks, batch_in, batch_at, mark_of_batch, mark_at, is_marked, rows_in, rows_from, rows_of, BeginsUnmarked, first_or}
+use Rattle.cw_data.specs.Rows.{Marks, batch_in, batch_at, mark_of_batch, is_marked, rows_in, rows_from, BeginsUnmarked, first_or}
 use Rattle.cw_data.proofs.Lists.{slice_get-here, prefix_len-all, prefix_len-none, take-behind}
 
 -- the records of the batch at a place

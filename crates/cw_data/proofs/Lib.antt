@@ -1,5 +1,5 @@
 pub mod Lists
-pub mod SameLemmas
+pub mod Names
 pub mod Waiting
 pub mod Chains
 pub mod Takes

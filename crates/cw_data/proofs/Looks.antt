@@ -1,8 +1,8 @@
 -- What the look-ups say of the whole list.
-use Rattle.std.proofs.Common.{◌≡◌, ℕ, zero, suc, ◌+◌, ◌-◌, max, Bool, true, false, not, ◌&&◌, cond, List, [], ◌∷◌, ◌++◌, length, take, drop, map, Option, None, Some, is_some, is_none, refl, sym, ap, subst, ◌∙◌, arith, append_assoc}
+use Rattle.std.proofs.Common.{◌≡◌, ℕ, zero, suc, ◌+◌, ◌-◌, max, Bool, true, false, not, ◌&&◌, cond, List, [], ◌∷◌, ◌++◌, length, take, drop, Option, None, Some, is_some, is_none, refl, sym, ap, subst, ◌∙◌, arith, append_assoc}
 use Rattle.std.specs.Prelude.{slice_get, nat_lt, nat_le}
 use Rattle.std.specs.Option.{option_map, option_or}
-use Rattle.std.specs.List.{filter, filter_map, cons_option, find, flat_map, prefix_len, enumerate_from, AllByRecursion}
+use Rattle.std.specs.List.{filter, filter_map, cons_option, find, flat_map, prefix_len, enumerate_from}
 use Rattle.std.specs.List.Sorted.{IsPartitionedBy}
 use Rattle.std.proofs.lemmas.List.{length_push}
 use Rattle.cw_types.specs.declared.ids.Tag.{Tag}
@@ -12,12 +12,13 @@ use Rattle.cw_data.specs.declared.entry.DataEntry.{DataEntry}
 use Rattle.cw_data.specs.declared.entry.DataEntry.TheVariants.{Batch as InBatch, Mark}
 use Rattle.cw_data.specs.declared.topic.Row.{Row}
 use Rattle.cw_data.specs.declared.topic.Topic.{Topic}
-use Rattle.cw_data.specs.Log.{Record, records_of, records, marker_of, stable, taken, is_commit, tag_in, has_ended, first_unmarked}
+use Rattle.cw_types.specs.Verdict.{has_ended}
+use Rattle.cw_data.specs.Log.{Record, records, marker_of, stable, taken, is_commit, tag_in}
 use Rattle.cw_data.specs.Rows.{Marks, values_in, batch_at, batch_in, commits, rows_of, IsTopic, first_or}
 use Rattle.cw_data.specs.Tables.{place_in, places_from, ended_of, first_ended}
 use Rattle.cw_data.proofs.Lists.{slice_get-map, slice_get-here}
 use Rattle.cw_data.proofs.Chains.{records_in_batch, held, Chain, rows_chain, rows_joined, front_ends, front_is}
-use Rattle.cw_data.proofs.Takes.{at_or_behind, in_row, wanted, found_in, ascends_from_chain, ascends_taken, ascends_filtered, partitioned}
+use Rattle.cw_data.proofs.Takes.{in_row, wanted, found_in, ascends_from_chain, ascends_taken, ascends_filtered, partitioned}
 
 some_not_none : (o : Option Bool) → not (is_none o) ≡ is_some o
 some_not_none None = refl

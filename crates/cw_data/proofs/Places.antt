@@ -1,17 +1,15 @@
 -- The places of the batches without marker, behind one entry more and behind a marker; and how marks and room are behind an entry.
 use Rattle.std.proofs.Common.{◌≡◌, ℕ, zero, suc, ◌+◌, ◌<◌, ◌≤◌, Bool, true, false, not, ◌&&◌, ◌||◌, cond, List, [], ◌∷◌, ◌++◌, length, take, drop, get_or, Contains, Option, None, Some, is_some, is_none, IsSome, Result, Ok, Err, OnOk, vec_capacity, refl, sym, ap, subst, ◌∙◌, arith, append_assoc, length-append, ⊎_elim}
 use Rattle.std.specs.Prelude.{slice_get}
-use Rattle.std.specs.Bool.{⊤}
 use Rattle.std.specs.Option.{option_or}
 use Rattle.std.specs.declared.alloc.AllocError.{AllocError}
 use Rattle.std.specs.Str.{bytes_eq}
 use Rattle.std.specs.BTreeMap.{get}
-use Rattle.std.specs.List.{filter, filter_map, list_any, count_by, AllByRecursion}
+use Rattle.std.specs.List.{filter, list_any, count_by, AllByRecursion}
 use Rattle.std.proofs.lemmas.List.{append-nil, length_push, take_more, drop_more, drop_all, take_all, same_from_push, length-take-le, take_at, drop_at}
 use Rattle.std.proofs.lemmas.List.Elements.{filter-append, Contains-append_left, Contains-append_right, Contains-append_cases, Contains-push_cases}
 use Rattle.std.proofs.lemmas.List.Folds.{list_any-append}
 use Rattle.std.proofs.lemmas.List.Sums.{sum_by-append}
-use Rattle.std.proofs.lemmas.Slice.Eq.{bytes_eq-Decides}
 use Rattle.cw_types.specs.declared.ids.Tag.{Tag}
 use Rattle.cw_data.specs.declared.entry.Batch.{Batch}
 use Rattle.cw_data.specs.declared.entry.DataEntry.{DataEntry}
@@ -19,11 +17,11 @@ use Rattle.cw_data.specs.declared.entry.DataEntry.TheVariants.{Batch as InBatch,
 use Rattle.cw_data.specs.declared.topic.Row.{Row}
 use Rattle.cw_data.specs.declared.topic.Topic.{Topic}
 use Rattle.cw_data.specs.declared.tables.Tables.{Tables}
-use Rattle.cw_data.specs.Same.{same_tag}
-use Rattle.cw_data.specs.Log.{Record, records_of, records_in, records, mark_in, marker_of}
+use Rattle.cw_types.specs.Same.{same_tag, tag_order}
+use Rattle.cw_data.specs.Log.{Record, records_of, records_in, mark_in, marker_of}
 use Rattle.cw_data.specs.Rows.{Marks, batch_in, batch_at, mark_of_batch, is_marked, rows_in, rows_from, rows_of, BeginsUnmarked, TopicAt, EndsWith}
-use Rattle.cw_data.specs.Tables.{marks_in, name_order, tag_order, place_in, places_from, is_of_tag, topic_with, is_named, is_of_both, NextAt, is_batch_of, after_mark, HasRows, RoomAt, HasRoom, Keeps}
-use Rattle.cw_data.proofs.SameLemmas.{same_tag-flip}
+use Rattle.cw_data.specs.Tables.{marks_in, name_order, place_in, places_from, is_of_tag, is_named, is_of_both, NextAt, is_batch_of, after_mark, HasRows, RoomAt, HasRoom, Keeps}
+use Rattle.cw_types.proofs.SameLemmas.{same_tag-flip}
 use Rattle.cw_data.proofs.Lists.{slice_get-left, slice_get-here, option_or-some}
 use Rattle.cw_data.proofs.Waiting.{rows_stay, rows_from-within, each_dropped}
 

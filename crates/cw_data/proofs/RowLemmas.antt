@@ -1,13 +1,15 @@
 -- What a changed row of a table says.
-use Rattle.std.proofs.Common.{◌≡◌, ℕ, Bool, true, false, cond, List, Option, None, Some, is_some, IsSome, unwrap_or, refl, sym, ap, subst, ◌∙◌}
+use Rattle.std.proofs.Common.{◌≡◌, ℕ, Bool, true, false, cond, List, Option, None, Some, IsSome, refl, sym, ap, subst, ◌∙◌}
 use Rattle.std.specs.BTreeMap.{BTreeMap, get, is_at}
 use Rattle.std.specs.Str.{bytes_eq}
 use Rattle.std.proofs.lemmas.Slice.Eq.{bytes_eq-Decides}
 use Rattle.cw_types.specs.declared.ids.Tag.{Tag}
 use Rattle.cw_data.specs.declared.topic.Topic.{Topic}
-use Rattle.cw_data.specs.Same.{same_tag}
-use Rattle.cw_data.specs.Tables.{name_order, tag_order, marks_in}
-use Rattle.cw_data.proofs.SameLemmas.{name_at, bytes_eq-flip, tag_at, same_tag-flip}
+use Rattle.cw_types.specs.Same.{same_tag, tag_order}
+use Rattle.cw_data.specs.Tables.{name_order, marks_in}
+use Rattle.cw_types.proofs.SameLemmas.{tag_at, same_tag-flip, same_tag-Decides}
+use Rattle.cw_tables.proofs.RowLemmas.{value-set}
+use Rattle.cw_data.proofs.Names.{name_at, bytes_eq-flip}
 
 by_test : (P : Option Topic → Type 0) (b : Bool) (x y : Option Topic) → (b ≡ true → P x) → (b ≡ false → P y) → P (cond b x y)
 by_test P true x y here others = here refl
@@ -33,15 +35,9 @@ pub row_of : (P : List ℕ → Option Topic → Type 0) (table : BTreeMap (List 
 row_of P table name q topic found same was = subst (P q) (ap (get name_order table) same ∙ found) was
 
 -- what a table of marks says behind one of its rows set
-unwrap_or-cond : (b : Bool) (now was : Option (Option Bool)) (row : Option Bool) → now ≡ cond b (Some row) was → unwrap_or now None ≡ cond b row (unwrap_or was None)
-unwrap_or-cond true now was row e = ap (λ o. unwrap_or o None) e
-unwrap_or-cond false now was row e = ap (λ o. unwrap_or o None) e
-
 pub marks_in-set : (old new : BTreeMap Tag (Option Bool)) (tag : Tag) (row : Option Bool) → ((q : Tag) → get tag_order new q ≡ cond (is_at (tag_order tag) q) (Some row) (get tag_order old q))
     → (q : Tag) → marks_in new q ≡ cond (same_tag q tag) row (marks_in old q)
-marks_in-set old new tag row set q =
-    unwrap_or-cond (is_at (tag_order tag) q) (get tag_order new q) (get tag_order old q) row (set q)
-    ∙ ap (λ b. cond b row (marks_in old q)) (tag_at tag q ∙ same_tag-flip tag q)
+marks_in-set old new tag row set = value-set tag_order same_tag tag_at same_tag-flip same_tag-Decides None old new tag row set
 
 -- a new row that reads as none
 same_none : (b : Bool) (was : Option Bool) → (b ≡ true → was ≡ None) → cond b None was ≡ was

@@ -1,9 +1,10 @@
 -- The data log's invariant behind its steps.
-use Rattle.std.proofs.Common.{◌≡◌, ℕ, suc, ◌+◌, ◌<◌, ◌≤◌, Bool, cond, List, [], ◌∷◌, ◌++◌, length, take, drop, slice_index_or, Contains, Option, None, Some, vec_capacity, sym, ap, subst, ◌∙◌, arith, length-append, add-one, drop-cons}
+use Rattle.std.proofs.Common.{◌≡◌, ℕ, ◌+◌, ◌≤◌, List, [], ◌∷◌, ◌++◌, length, take, drop, slice_index_or, Option, None, Some, sym, ap, subst, ◌∙◌, arith, length-append}
 use Rattle.std.specs.BTreeMap.{get}
 use Rattle.std.specs.List.{count_by}
-use Rattle.std.proofs.lemmas.List.{take-append-drop, get_or_default}
+use Rattle.std.proofs.lemmas.List.{get_or_default}
 use Rattle.std.proofs.lemmas.List.Elements.{Contains-append_left, Contains-append_right}
+use Rattle.cw_types.proofs.Lists.{cut_at}
 use Rattle.cw_data.specs.declared.entry.DataEntry.{DataEntry}
 use Rattle.cw_data.specs.declared.topic.Topic.{Topic}
 use Rattle.cw_data.specs.declared.tables.Tables.{Tables}
@@ -33,10 +34,6 @@ roomier tables entries reserved capacity was now same more kept has is grown = r
   has = has;
   room = omega (arith, was.room, grown, ap length is);
 }
-
--- a list at a place of an element
-pub cut_at : (xs : List DataEntry) (at : ℕ) (x : DataEntry) → at < length xs → slice_index_or xs at x ≡ x → xs ≡ take at xs ++ x ∷ drop (at + 1) xs
-cut_at xs at x within there = sym (take-append-drop at xs) ∙ ap (λ (l : List DataEntry). take at xs ++ l) (rw (add-one, drop-cons xs at x) (ap (λ (y : DataEntry). y ∷ drop (suc at) xs) there))
 
 -- what is taken from the first place of an entry is that entry
 pub taken_is : (entries : List DataEntry) (at : ℕ) (entry taken : DataEntry) → IsFirstAt entry entries at → taken ≡ slice_index_or entries at taken → taken ≡ entry

@@ -1,5 +1,5 @@
 -- The first committed record from an offset on is in the first row that ends behind it.
-use Rattle.std.proofs.Common.{◌≡◌, ℕ, zero, suc, ◌+◌, ◌-◌, ◌<◌, ◌≤◌, max, Bool, true, false, not, ◌&&◌, cond, List, [], ◌∷◌, ◌++◌, length, take, drop, map, get_or, Option, None, Some, is_some, refl, sym, ap, subst, ◌∙◌, arith, length-append}
+use Rattle.std.proofs.Common.{◌≡◌, ℕ, zero, suc, ◌+◌, ◌-◌, ◌<◌, ◌≤◌, max, Bool, true, false, ◌&&◌, cond, List, [], ◌∷◌, length, take, map, get_or, Option, None, Some, is_some, refl, sym, ap, ◌∙◌, arith}
 use Rattle.std.specs.Prelude.{slice_get, nat_le, nat_lt}
 use Rattle.std.specs.Bool.{⊤}
 use Rattle.std.specs.Option.{option_map, option_or}
@@ -10,8 +10,8 @@ use Rattle.cw_types.specs.declared.ids.Tag.{Tag}
 use Rattle.cw_data.specs.declared.entry.Batch.{Batch}
 use Rattle.cw_data.specs.declared.entry.DataEntry.{DataEntry}
 use Rattle.cw_data.specs.declared.topic.Row.{Row}
-use Rattle.cw_data.specs.Log.{Record, records_of, is_commit}
-use Rattle.cw_data.specs.Rows.{Marks, batch_at, mark_of_batch, mark_at, commits}
+use Rattle.cw_data.specs.Log.{Record, is_commit}
+use Rattle.cw_data.specs.Rows.{Marks, batch_at, mark_of_batch, commits}
 use Rattle.cw_data.proofs.Lists.{slice_get-past, slice_get-within, find-append, enumerate_from-append, option_or-some}
 use Rattle.cw_data.proofs.Chains.{records_in_batch, held, Chain}
 

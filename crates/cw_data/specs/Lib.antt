@@ -1,4 +1,3 @@
-pub mod Same
 pub mod Log
 pub mod DataLog
 pub mod Rows

@@ -1,16 +1,16 @@
 -- The data log: batches of records, and markers that say how their transactions ended (KIP-98, control records). That a topic's offsets are places in
 -- one log of all topics, and that markers take none, is this project's own.
-use Rattle.std.specs.Prelude.{ℕ, Bool, true, false, ◌&&◌, List, [], ◌∷◌, map, take, nat_le, Option, None, Some, is_none, unwrap_or, if◌then◌else◌}
+use Rattle.std.specs.Prelude.{ℕ, Bool, false, ◌&&◌, List, [], ◌∷◌, map, take, nat_le, Option, None, Some, is_none, unwrap_or, if◌then◌else◌}
 use Rattle.std.specs.Option.{option_map, option_or}
 use Rattle.std.specs.List.{flat_map, filter_map, find, position_or_len, enumerate_from}
 use Rattle.std.specs.Str.{bytes_eq}
+use Rattle.cw_types.specs.Verdict.{has_ended}
 use Rattle.cw_types.specs.declared.ids.Tag.{Tag}
 use Rattle.cw_types.specs.declared.verdict.Verdict.{Verdict}
-use Rattle.cw_types.specs.declared.verdict.Verdict.TheVariants.{Committed, Aborted, Open}
 use Rattle.cw_data.specs.declared.entry.Batch.{Batch}
 use Rattle.cw_data.specs.declared.entry.DataEntry.{DataEntry}
 use Rattle.cw_data.specs.declared.entry.DataEntry.TheVariants.{Batch as InBatch, Mark}
-use Rattle.cw_data.specs.Same.{same_tag}
+use Rattle.cw_types.specs.Same.{same_tag}
 
 -- a record of a topic: the transaction that wrote it, and its value
 pub record Record : Type 0 where
@@ -58,12 +58,6 @@ taken topic from entries =
 abbrev pub tag_in : DataEntry → Option Tag
 tag_in (InBatch batch) = Some batch.tag
 tag_in (Mark tag committed) = None
-
--- whether a transaction has ended
-abbrev pub has_ended : Verdict → Bool
-has_ended Committed = true
-has_ended Aborted = true
-has_ended Open = false
 
 -- the first transaction of the log that has ended and has no marker
 abbrev pub first_unmarked : (Tag → Verdict) → List DataEntry → Option Tag

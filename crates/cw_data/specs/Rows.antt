@@ -1,5 +1,5 @@
 -- What the log keeps of a topic: a row a batch, and how far its rows are settled. Internal: no public contract cites this.
-use Rattle.std.specs.Prelude.{◌≡◌, ℕ, zero, suc, ◌+◌, ◌≤◌, ◌==◌, Bool, true, false, List, [], ◌∷◌, ◌++◌, length, take, drop, Option, None, Some, is_some, is_none, slice_get, if◌then◌else◌}
+use Rattle.std.specs.Prelude.{◌≡◌, ℕ, zero, suc, ◌+◌, ◌≤◌, Bool, true, false, List, [], ◌∷◌, ◌++◌, length, take, drop, Option, None, Some, is_some, slice_get}
 use Rattle.std.specs.Bool.{⊤}
 use Rattle.std.specs.List.{filter, AllByRecursion}
 use Rattle.cw_types.specs.declared.ids.Tag.{Tag}
@@ -8,7 +8,7 @@ use Rattle.cw_data.specs.declared.entry.DataEntry.{DataEntry}
 use Rattle.cw_data.specs.declared.entry.DataEntry.TheVariants.{Batch as InBatch, Mark}
 use Rattle.cw_data.specs.declared.topic.Row.{Row}
 use Rattle.cw_data.specs.declared.topic.Topic.{Topic}
-use Rattle.cw_data.specs.Log.{Record, records_of, records_in, records, is_commit}
+use Rattle.cw_data.specs.Log.{records_in, records, is_commit}
 
 -- how each transaction is marked
 abbrev pub Marks : Type 0

@@ -1,5 +1,5 @@
 -- What the tables keep of the log, so that no look-up walks it. Internal: no public contract cites this.
-use Rattle.std.specs.Prelude.{◌≡◌, ℕ, ◌+◌, ◌≤◌, Bool, true, false, ◌&&◌, List, [], ◌∷◌, ◌++◌, length, Contains, Option, None, Some, is_none, IsSome, unwrap_or, slice_index_or, take, drop, ◌<◌, ◌^◌, if◌then◌else◌, vec_capacity}
+use Rattle.std.specs.Prelude.{◌≡◌, ℕ, ◌+◌, ◌≤◌, Bool, false, List, [], ◌∷◌, ◌++◌, length, Contains, Option, None, Some, is_none, IsSome, unwrap_or, slice_index_or, take, drop, ◌<◌, ◌^◌, if◌then◌else◌, vec_capacity}
 use Rattle.std.specs.Bool.{⊤}
 use Rattle.std.specs.Option.{option_or}
 use Rattle.std.specs.List.{count_by, list_any}
@@ -10,7 +10,6 @@ use Rattle.std.specs.Cmp.Lexicographic.{slice_cmp}
 use Rattle.std.specs.declared.cmp.Ordering.{Ordering}
 use Rattle.cw_types.specs.declared.ids.Tag.{Tag}
 use Rattle.cw_types.specs.declared.verdict.Verdict.{Verdict}
-use Rattle.cw_types.specs.contracts.ids.TagOrd.TheImpl as tag_ord
 use Rattle.cw_data.specs.declared.entry.Batch.{Batch}
 use Rattle.cw_data.specs.declared.entry.DataEntry.{DataEntry}
 use Rattle.cw_data.specs.declared.entry.DataEntry.TheVariants.{Batch as InBatch, Mark}
@@ -18,8 +17,9 @@ use Rattle.cw_data.specs.declared.entry.EntryRef.{EntryRef}
 use Rattle.cw_data.specs.declared.entry.EntryRef.TheVariants.{Batch as BatchRef, Mark as MarkRef}
 use Rattle.cw_data.specs.declared.topic.Topic.{Topic}
 use Rattle.cw_data.specs.declared.tables.Tables.{Tables}
-use Rattle.cw_data.specs.Same.{same_tag}
-use Rattle.cw_data.specs.Log.{marker_of, records, has_ended}
+use Rattle.cw_types.specs.Same.{same_tag, tag_order}
+use Rattle.cw_types.specs.Verdict.{has_ended}
+use Rattle.cw_data.specs.Log.{marker_of, records}
 use Rattle.cw_data.specs.Rows.{Marks, batch_at, rows_of, BeginsUnmarked, TopicAt}
 
 -- the entry that is borrowed in parts
@@ -27,10 +27,7 @@ abbrev pub entry_of : EntryRef → DataEntry
 entry_of (BatchRef batch) = InBatch batch.now
 entry_of (MarkRef tag committed) = Mark tag.now committed
 
--- the orders of the tables' keys
-abbrev pub tag_order : Tag → Tag → Ordering
-tag_order = tag_ord.cmp-value.it
-
+-- the order of the topics' names
 abbrev pub name_order : List ℕ → List ℕ → Ordering
 name_order = slice_cmp nat_cmp
 

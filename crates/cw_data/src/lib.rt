@@ -2,12 +2,11 @@
 //!
 //! Its public contract says that its meaning is a list of batches and markers, that a record's offset is its
 //! place among all records of its topic, where the last stable offset is, and which committed record comes next.
-//! It stands on the ids of `cw_types` and the fields of `cw_bytes`.
+//! It stands on the ids of `cw_types`, the fields of `cw_bytes` and the rows of `cw_tables`.
 #![tactic(auto)]
 
 mod body;
 mod entry;
-mod rows;
 mod state;
 mod tables;
 #[cfg(test)]

@@ -197,7 +197,7 @@ impl DataState {
     }
 }
 
-ghost use Rattle.cw_data.specs.Log.{has_ended};
+ghost use Rattle.cw_types.specs.Verdict.{has_ended};
 ghost use Rattle.cw_data.specs.Rows.{batch_at};
 ghost use Rattle.cw_data.specs.Tables.{entry_of, IsFirstAt, Keeps, HasRoom, FitsBehind, ended_of, first_ended};
 

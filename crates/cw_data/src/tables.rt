@@ -6,13 +6,13 @@ ghost use Rattle.std.specs.BTreeMap.{get};
 ghost use Rattle.cw_types.specs.declared.ids.Tag.{Tag};
 ghost use Rattle.cw_data.specs.declared.entry.DataEntry.{DataEntry};
 ghost use Rattle.cw_data.specs.declared.topic.Topic.{Topic};
-ghost use Rattle.cw_data.specs.Same.{same_tag};
+ghost use Rattle.cw_types.specs.Same.{same_tag, tag_order};
 ghost use Rattle.cw_data.specs.Rows.{Marks, batch_at, WaitsAt, TopicAt, EndsWith};
-ghost use Rattle.cw_data.specs.Tables.{marks_in, name_order, tag_order, is_of_tag, is_of_both, topic_with, is_batch_of, NextAt, RoomAt, after_mark, Keeps, HasRows, HasRoom, FitsBehind, entry_of};
+ghost use Rattle.cw_data.specs.Tables.{marks_in, name_order, is_of_tag, is_of_both, topic_with, is_batch_of, NextAt, RoomAt, after_mark, Keeps, HasRows, HasRoom, FitsBehind, entry_of};
 
 use crate::entry::{Batch, DataEntry, EntryRef, batch_at};
-use crate::rows::{has_row, make_row};
 use crate::topic::{Topic, marker, push_made};
+use cw_tables::{has_row, make_row};
 use cw_types::{Name, Tag};
 use std::alloc::{AllocError, Global};
 use std::collections::BTreeMap;

@@ -9,7 +9,7 @@ use Rattle.cw_bytes.specs.declared.applied.Applied.{Applied}
 use Rattle.cw_keys.specs.Parts.{part_of}
 use Rattle.cw_keys.specs.Offsets.{offset_of}
 use Rattle.cw_txn.specs.declared.entry.Entry.{Entry}
-use Rattle.cw_txn.specs.Same.{same_tag}
+use Rattle.cw_types.specs.Same.{same_tag}
 use Rattle.cw_txn.specs.Legal.{epoch_of, is_committed}
 use Rattle.cw_offset.specs.declared.body.OffsetEntry.{OffsetEntry}
 use Rattle.cw_offset.specs.declared.body.OffsetEntry.TheVariants as offset

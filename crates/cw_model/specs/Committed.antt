@@ -9,7 +9,7 @@ use Rattle.cw_types.specs.declared.ids.PartKey.{PartKey}
 use Rattle.cw_types.specs.declared.ids.Span.{Span}
 use Rattle.cw_txn.specs.declared.entry.Entry.{Entry}
 use Rattle.cw_txn.specs.declared.entry.Entry.TheVariants.{Bump, Commit, Set}
-use Rattle.cw_txn.specs.Same.{same_tag, same_part}
+use Rattle.cw_types.specs.Same.{same_tag, same_part}
 use Rattle.cw_txn.specs.Legal.{is_committed}
 use Rattle.cw_data.specs.declared.entry.Batch.{Batch}
 use Rattle.cw_data.specs.declared.entry.DataEntry.{DataEntry}

@@ -14,7 +14,7 @@ use Rattle.cw_config.specs.View.{generation_of, task_count_of, fenced_count_of, 
 use Rattle.cw_txn.specs.declared.entry.Entry.{Entry}
 use Rattle.cw_txn.specs.declared.entry.Entry.TheVariants.{Bump, Set}
 use Rattle.cw_txn.specs.declared.entry.SetOffset.{SetOffset}
-use Rattle.cw_txn.specs.Same.{same_part, connector_of}
+use Rattle.cw_types.specs.Same.{same_part, connector_of}
 use Rattle.cw_model.specs.declared.fault.WorldFault.TheVariants.{StaleGeneration}
 use Rattle.cw_model.specs.declared.row.Row.{Row}
 use Rattle.cw_model.specs.declared.row.RowPhase.{RowPhase}

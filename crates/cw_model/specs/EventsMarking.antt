@@ -7,11 +7,11 @@ use Rattle.cw_types.specs.declared.ids.Tid.TheVariants.{Lead}
 use Rattle.cw_types.specs.declared.logs.LogName.{LogName}
 use Rattle.cw_types.specs.declared.logs.LogName.TheVariants.{Config, Offsets, Status, Txn, Batches}
 use Rattle.cw_types.specs.declared.verdict.Verdict.{Verdict}
-use Rattle.cw_txn.specs.Same.{same_tag}
+use Rattle.cw_types.specs.Same.{same_tag}
 use Rattle.cw_txn.specs.Legal.{is_committed, verdict_of}
 use Rattle.cw_offset.specs.declared.body.OffsetEntry.{OffsetEntry}
 use Rattle.cw_offset.specs.declared.body.OffsetEntry.TheVariants.{Mark}
-use Rattle.cw_offset.specs.Offsets.{has_ended}
+use Rattle.cw_types.specs.Verdict.{has_ended}
 use Rattle.cw_data.specs.declared.entry.DataEntry.TheVariants.{Mark as DataMark}
 use Rattle.cw_data.specs.Log.{first_unmarked as first_unmarked_data}
 use Rattle.cw_model.specs.State.{Cluster}

@@ -10,7 +10,7 @@ use Rattle.cw_config.specs.View.{config_of, target_of, generation_of, task_count
 use Rattle.cw_config.specs.Acceptance.{end_of}
 use Rattle.cw_status.specs.Statuses.{latest}
 use Rattle.cw_txn.specs.declared.entry.Entry.{Entry}
-use Rattle.cw_txn.specs.Same.{same_tag}
+use Rattle.cw_types.specs.Same.{same_tag}
 use Rattle.cw_txn.specs.Allowed.{AreAllowed}
 use Rattle.cw_offset.specs.declared.body.OffsetEntry.{OffsetEntry}
 use Rattle.cw_offset.specs.declared.body.OffsetEntry.TheVariants.{Records, Mark}

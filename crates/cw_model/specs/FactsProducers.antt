@@ -9,7 +9,7 @@ use Rattle.cw_types.specs.declared.ids.Tag.{Tag}
 use Rattle.cw_config.specs.View.{generation_of, fenced_count_of}
 use Rattle.cw_txn.specs.declared.entry.Entry.{Entry}
 use Rattle.cw_txn.specs.declared.entry.Entry.TheVariants.{Bump, Commit, Set}
-use Rattle.cw_txn.specs.Same.{same_tid, same_tag}
+use Rattle.cw_types.specs.Same.{same_tid, same_tag}
 use Rattle.cw_data.specs.declared.entry.Batch.{Batch}
 use Rattle.cw_feed.specs.Yield.{Yield}
 use Rattle.cw_io.specs.Shelf.{Files}

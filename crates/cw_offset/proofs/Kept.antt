@@ -7,10 +7,9 @@ use Rattle.std.specs.BTreeMap.{BTreeMap, get, is_at}
 use Rattle.std.proofs.lemmas.List.{append-nil}
 use Rattle.cw_types.specs.declared.ids.Tag.{Tag}
 use Rattle.cw_types.specs.declared.ids.PartKey.{PartKey}
-use Rattle.cw_txn.specs.Same.{same_part}
-use Rattle.cw_txn.specs.Tables.{part_order}
-use Rattle.cw_txn.proofs.SameLemmas.{part_at, same_part-flip, same_part-Decides}
-use Rattle.cw_txn.proofs.RowLemmas.{value-set}
+use Rattle.cw_types.specs.Same.{same_part, part_order}
+use Rattle.cw_types.proofs.SameLemmas.{part_at, same_part-flip, same_part-Decides}
+use Rattle.cw_tables.proofs.RowLemmas.{value-set}
 use Rattle.cw_offset.specs.declared.call.OffsetCall.{OffsetCall}
 use Rattle.cw_offset.specs.declared.call.OffsetCall.TheVariants.{Put, Commit, Abort, Set}
 use Rattle.cw_offset.specs.declared.tables.Settled.{Settled}

@@ -4,7 +4,7 @@ use Rattle.std.specs.List.{list_any}
 use Rattle.cw_types.specs.declared.ids.Tag.{Tag}
 use Rattle.cw_types.specs.declared.ids.PartKey.{PartKey}
 use Rattle.std.specs.Prelude.{ℕ, Option}
-use Rattle.cw_txn.specs.Same.{same_tag}
+use Rattle.cw_types.specs.Same.{same_tag}
 use Rattle.cw_offset.specs.declared.call.OffsetCall.{OffsetCall}
 use Rattle.cw_offset.specs.declared.call.OffsetCall.TheVariants.{Put, Commit, Abort, Set}
 use Rattle.cw_offset.specs.Offsets.{commits, is_mark_of}

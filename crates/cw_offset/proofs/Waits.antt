@@ -7,10 +7,11 @@ use Rattle.std.specs.List.{filter, filter_map, find, cons_option, AllByRecursion
 use Rattle.std.specs.Option.{option_or}
 use Rattle.cw_types.specs.declared.ids.Tag.{Tag}
 use Rattle.cw_types.specs.declared.verdict.Verdict.{Verdict}
-use Rattle.cw_txn.specs.Same.{same_tag}
+use Rattle.cw_types.specs.Same.{same_tag}
 use Rattle.cw_offset.specs.declared.call.OffsetCall.{OffsetCall}
 use Rattle.cw_offset.specs.declared.call.OffsetCall.TheVariants.{Put, Commit, Abort, Set}
-use Rattle.cw_offset.specs.Offsets.{is_mark_of, waiting, has_ended, first_unmarked}
+use Rattle.cw_types.specs.Verdict.{has_ended}
+use Rattle.cw_offset.specs.Offsets.{is_mark_of, waiting, first_unmarked}
 use Rattle.cw_offset.specs.Tables.{waiting_at, is_put_of, tag_in, if_ended}
 use Rattle.cw_offset.proofs.Marks.{is_marked, is_marked-push}
 

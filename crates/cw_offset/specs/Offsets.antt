@@ -1,11 +1,11 @@
 -- What is committed of a part (KIP-618): an offset that a task stores waits under its transaction until that is marked, and one that a user sets counts at once.
-use Rattle.std.specs.Prelude.{ℕ, Bool, true, false, not, ◌&&◌, ◌||◌, List, [], ◌∷◌, Option, None, Some, if◌then◌else◌}
+use Rattle.std.specs.Prelude.{ℕ, Bool, false, not, ◌&&◌, ◌||◌, List, [], ◌∷◌, Option, None, Some, if◌then◌else◌}
 use Rattle.std.specs.List.{fold, find, list_any}
+use Rattle.cw_types.specs.Verdict.{has_ended}
 use Rattle.cw_types.specs.declared.ids.Tag.{Tag}
 use Rattle.cw_types.specs.declared.ids.PartKey.{PartKey}
 use Rattle.cw_types.specs.declared.verdict.Verdict.{Verdict}
-use Rattle.cw_types.specs.declared.verdict.Verdict.TheVariants.{Committed, Aborted, Open}
-use Rattle.cw_txn.specs.Same.{same_tag, same_part}
+use Rattle.cw_types.specs.Same.{same_tag, same_part}
 use Rattle.cw_offset.specs.declared.call.OffsetCall.{OffsetCall}
 use Rattle.cw_offset.specs.declared.call.OffsetCall.TheVariants.{Put, Commit, Abort, Set}
 
@@ -43,12 +43,6 @@ waiting (Put tag part to ∷ calls) = if list_any (is_mark_of tag) calls then wa
 waiting (Commit tag ∷ calls) = waiting calls
 waiting (Abort tag ∷ calls) = waiting calls
 waiting (Set part to ∷ calls) = waiting calls
-
--- whether a transaction has ended
-abbrev pub has_ended : Verdict → Bool
-has_ended Committed = true
-has_ended Aborted = true
-has_ended Open = false
 
 -- the first transaction that has ended and that waits for its mark
 abbrev pub first_unmarked : (Tag → Verdict) → List OffsetCall → Option Tag

@@ -7,15 +7,15 @@ use Rattle.std.specs.BTreeMap.{BTreeMap, get}
 use Rattle.cw_types.specs.declared.ids.Tag.{Tag}
 use Rattle.cw_types.specs.declared.ids.PartKey.{PartKey}
 use Rattle.cw_types.specs.declared.verdict.Verdict.{Verdict}
-use Rattle.cw_txn.specs.Same.{same_tag, same_part}
-use Rattle.cw_txn.specs.Tables.{part_order}
+use Rattle.cw_types.specs.Same.{same_tag, same_part, part_order}
 use Rattle.cw_offset.specs.declared.call.OffsetCall.{OffsetCall}
 use Rattle.cw_offset.specs.declared.call.OffsetCall.TheVariants.{Put, Commit, Abort, Set}
 use Rattle.cw_offset.specs.declared.call.CallRef.{CallRef}
 use Rattle.cw_offset.specs.declared.call.CallRef.TheVariants.{Put as PutRef, Commit as CommitRef, Abort as AbortRef, Set as SetRef}
 use Rattle.cw_offset.specs.declared.tables.Settled.{Settled}
 use Rattle.cw_offset.specs.declared.tables.Tables.{Tables}
-use Rattle.cw_offset.specs.Offsets.{commits, is_mark_of, has_ended}
+use Rattle.cw_types.specs.Verdict.{has_ended}
+use Rattle.cw_offset.specs.Offsets.{commits, is_mark_of}
 
 -- the call that is borrowed in parts
 abbrev pub call_of : CallRef → OffsetCall

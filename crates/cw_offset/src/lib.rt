@@ -3,12 +3,11 @@
 //! Its public contract says that its meaning is the list of calls made so far, that a part's committed offset is
 //! the value of the last of its sets and committed puts, and that a call that was reserved can't want memory;
 //! and that bodies of the offset log are read and written by one exact form.
-//! It stands on the ids of `cw_types`, the fields of `cw_bytes`, and on `cw_txn` for when two ids are the same.
+//! It stands on the ids of `cw_types`, the fields of `cw_bytes` and the rows of `cw_tables`.
 #![tactic(auto)]
 
 mod body;
 mod call;
-mod rows;
 mod state;
 mod tables;
 #[cfg(test)]

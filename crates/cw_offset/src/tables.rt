@@ -2,11 +2,11 @@
 ghost use Rattle.std.specs.Prelude.{◌≡◌, ◌≤◌, ◌<◌, ◌+◌, ◌&&◌, ◌++◌, ◌∷◌, [], not, length, OnOk, Some, None, option_copied, slice_get, vec_len, vec_capacity, if◌then◌else◌};
 ghost use Rattle.std.specs.List.{fold, find, filter, filter_map};
 ghost use Rattle.cw_types.specs.declared.ids.PartKey.{PartKey};
-ghost use Rattle.cw_txn.specs.Same.{same_tag, same_part};
-ghost use Rattle.cw_offset.specs.Offsets.{has_ended};
+ghost use Rattle.cw_types.specs.Same.{same_tag, same_part};
+ghost use Rattle.cw_types.specs.Verdict.{has_ended};
 
 use crate::call::{CallRef, OffsetCall};
-use crate::rows::{has_row, make_row, set_row, value_at};
+use cw_tables::{has_row, make_row, set_row, value_at};
 use cw_types::{Decided, PartKey, Tag, Verdict};
 use std::alloc::{AllocError, Global};
 use std::collections::BTreeMap;

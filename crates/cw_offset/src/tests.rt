@@ -1,11 +1,21 @@
 //! Offsets and bodies against an independent model.
 use crate::{OffsetState, read_offsets, write_offsets};
 use cw_bytes::BodyFault;
-use cw_txn::Coordinator;
-use cw_types::{Epoch, PartKey, Tag, Tid};
+use cw_types::{Decided, Epoch, PartKey, Tag, Tid, Verdict};
 use std::alloc::AllocError;
 use std::process::Abort;
 use std::test::Fail;
+
+// Every transaction has this verdict.
+struct Always(Verdict);
+
+impl Decided for Always {
+    ghost verdict_of = { λ v tag. v.0 };
+
+    fn verdict(&self, _tag: &Tag) -> Verdict {
+        self.0
+    }
+}
 
 // A step of a run: calls on numbered transactions and parts.
 #[derive(Clone, Copy, Debug, Drop)]
@@ -100,27 +110,24 @@ fn last_set_or_committed_put_counts(rt: HostRuntime) -> Result<(), Fail> {
 
 #[test]
 fn first_ended_transaction_waits_for_its_mark(rt: HostRuntime) -> Result<(), Fail> {
-    let mut txn = Coordinator::new(rt.alloc());
     let mut state = OffsetState::new(rt.alloc());
     let part = PartKey::Raw(0);
-    assert!(rt; txn.bump(&Tid::Raw(0)) == Ok(Epoch(1)));
     state.put(&tag(8), &part, 1)?;
     state.put(&tag(3), &part, 2)?;
-    assert!(rt; state.first_unmarked(&txn).is_none());
-    assert!(rt; txn.bump(&Tid::Raw(0)) == Ok(Epoch(2)));
+    assert!(rt; state.first_unmarked(&Always(Verdict::Open)).is_none());
     assert!(rt;
         state
-            .first_unmarked(&txn)
+            .first_unmarked(&Always(Verdict::Aborted))
             .is_some_and(|found| *found == tag(8))
     );
     state.abort(&tag(8))?;
     assert!(rt;
         state
-            .first_unmarked(&txn)
+            .first_unmarked(&Always(Verdict::Aborted))
             .is_some_and(|found| *found == tag(3))
     );
     state.abort(&tag(3))?;
-    assert!(rt; state.first_unmarked(&txn).is_none());
+    assert!(rt; state.first_unmarked(&Always(Verdict::Aborted)).is_none());
     Ok(())
 }
 

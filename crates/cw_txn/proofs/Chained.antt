@@ -6,9 +6,9 @@ use Rattle.std.proofs.lemmas.Map.Keys.{IsDistinct-head, IsDistinct-tail}
 use Rattle.cw_types.specs.declared.ids.PartKey.{PartKey}
 use Rattle.cw_types.specs.declared.ids.Span.{Span}
 use Rattle.cw_txn.specs.declared.tables.History.{History}
-use Rattle.cw_txn.specs.Same.{same_part}
+use Rattle.cw_types.specs.Same.{same_part}
 use Rattle.cw_txn.specs.History.{GoesOn, SpansChain, after_span}
-use Rattle.cw_txn.proofs.SameLemmas.{same_part-Decides}
+use Rattle.cw_types.proofs.SameLemmas.{same_part-Decides}
 
 abbrev pub part_of : Span → PartKey
 part_of span = span.part

@@ -3,17 +3,17 @@ use Rattle.std.proofs.Common.{◌≡◌, ◌≢◌, ◌≤◌, ◌<◌, ◌⊎�
 use Rattle.std.specs.BTreeMap.{BTreeMap, get, is_at}
 use Rattle.std.specs.declared.cmp.Ordering.TheVariants.{Equal}
 use Rattle.std.specs.Ordering.{is_eq}
-use Rattle.cw_txn.proofs.RowLemmas.{value-set}
+use Rattle.cw_tables.proofs.RowLemmas.{value-set}
 use Rattle.std.proofs.lemmas.Bool.{cases_lt, cases_order}
 use Rattle.std.proofs.lemmas.Bool.Decides.{nat_tests}
 use Rattle.std.proofs.lemmas.List.{get_or_default, get_or_push, get_or_append_left}
 use Rattle.std.proofs.lemmas.List.Folds.{list_any_at, list_any-append}
 use Rattle.cw_types.specs.declared.ids.Tag.{Tag}
-use Rattle.cw_txn.specs.Same.{same_tag, same_tid}
+use Rattle.cw_types.specs.Same.{same_tag, same_tid, tag_order}
 use Rattle.cw_txn.specs.declared.commits.Commits.{Commits}
-use Rattle.cw_txn.specs.Commits.{Rises, IsAbove, IsFirstNotBelow, IsCutBetween, is_in, has_tag, tag_order}
+use Rattle.cw_txn.specs.Commits.{Rises, IsAbove, IsFirstNotBelow, IsCutBetween, is_in, has_tag}
 use Rattle.cw_txn.specs.Committed.{committed_at, HasTag}
-use Rattle.cw_txn.proofs.SameLemmas.{tag_at, same_tag-flip, same_tag-Decides}
+use Rattle.cw_types.proofs.SameLemmas.{tag_at, same_tag-flip, same_tag-Decides}
 
 and_no : (a : Bool) → (a && false) ≡ false
 and_no true = refl

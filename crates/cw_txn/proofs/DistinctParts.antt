@@ -5,9 +5,9 @@ use Rattle.std.specs.Cmp.{IsEquivalence}
 use Rattle.std.proofs.lemmas.List.{map-append, take_more, get_or_default}
 use Rattle.std.proofs.lemmas.Map.Keys.{IsDistinct-head, IsDistinct-tail, IsDistinct-push}
 use Rattle.cw_types.specs.declared.ids.PartKey.{PartKey}
-use Rattle.cw_txn.specs.Same.{same_part}
-use Rattle.cw_txn.proofs.SameLemmas.{same_part-Decides, same_part-flip}
-use Rattle.cw_txn.proofs.Walks.{cut_at}
+use Rattle.cw_types.specs.Same.{same_part}
+use Rattle.cw_types.proofs.SameLemmas.{same_part-Decides, same_part-flip}
+use Rattle.cw_types.proofs.Lists.{cut_at}
 
 part_equivalence : IsEquivalence same_part
 part_equivalence = record {
@@ -16,7 +16,7 @@ part_equivalence = record {
   congr = λ x y z same. ap (λ (p : PartKey). same_part p z) ((same_part-Decides x y).0 same);
 }
 
-pub list_any-parts : {X : Type 0} (part_in : X → PartKey) (part : PartKey) (xs : List X) → list_any (same_part part) (map part_in xs) ≡ list_any (λ (x : X). same_part part (part_in x)) xs
+list_any-parts : {X : Type 0} (part_in : X → PartKey) (part : PartKey) (xs : List X) → list_any (same_part part) (map part_in xs) ≡ list_any (λ (x : X). same_part part (part_in x)) xs
 list_any-parts part_in part [] = refl
 list_any-parts part_in part (x ∷ xs) = ap (λ b. same_part part (part_in x) || b) (list_any-parts part_in part xs)
 
@@ -29,7 +29,7 @@ at_middle P [] y ys each = each.0
 at_middle P (x ∷ xs) y ys each = at_middle P xs y ys each.1
 
 -- a part of distinct ones is none of those before it
-pub none_before : (xs : List PartKey) (y : PartKey) (ys : List PartKey) → IsDistinct same_part (xs ++ y ∷ ys) → list_any (same_part y) xs ≡ false
+none_before : (xs : List PartKey) (y : PartKey) (ys : List PartKey) → IsDistinct same_part (xs ++ y ∷ ys) → list_any (same_part y) xs ≡ false
 none_before [] y ys distinct = refl
 none_before (x ∷ xs) y ys distinct = neither (same_part y x) (list_any (same_part y) xs)
     (same_part-flip y x ∙ at_middle (λ z. same_part x z ≡ false) xs y ys (IsDistinct-head same_part x (xs ++ y ∷ ys) distinct))

@@ -16,12 +16,12 @@ use Rattle.cw_types.specs.declared.ids.PartKey.{PartKey}
 use Rattle.cw_types.specs.declared.ids.PartKey.TheVariants.{Raw, File, Seq, Sink}
 use Rattle.cw_txn.specs.declared.entry.Entry.{Entry}
 use Rattle.cw_txn.specs.declared.tables.History.{History}
-use Rattle.cw_txn.specs.Same.{same_part, connector_of}
+use Rattle.cw_types.specs.Same.{same_part, connector_of, part_order}
 use Rattle.cw_txn.specs.History.{history, end_of, unset}
 use Rattle.cw_txn.specs.Transactions.{ArePartsOf}
-use Rattle.cw_txn.specs.Tables.{is_of, parts_in, history_at, part_order}
+use Rattle.cw_txn.specs.Tables.{is_of, parts_in, history_at}
 use Rattle.cw_txn.proofs.DistinctParts.{none_distinct}
-use Rattle.cw_txn.proofs.SameLemmas.{part_at, same_part-Decides}
+use Rattle.cw_types.proofs.SameLemmas.{part_at, same_part-Decides}
 
 pub is_of-Decides : (connector : List ℕ) (part : PartKey) → Decides (is_of connector part) (connector_of part ≡ Some connector)
 is_of-Decides connector (Raw a) = (λ e. cc, λ e. cc)

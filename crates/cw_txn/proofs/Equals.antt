@@ -10,8 +10,8 @@ use Rattle.cw_types.specs.contracts.ids.PartKeyPartialEq.TheImpl as part_eq
 use Rattle.cw_types.specs.contracts.ids.SpanPartialEq.TheImpl as span_eq
 use Rattle.cw_txn.specs.contracts.entry.SetOffsetPartialEq.TheImpl as set_eq
 use Rattle.cw_txn.specs.declared.entry.SetOffset.{SetOffset}
-use Rattle.cw_txn.specs.Same.{same_part}
-use Rattle.cw_txn.proofs.SameLemmas.{same_part-Decides, two}
+use Rattle.cw_types.specs.Same.{same_part}
+use Rattle.cw_types.proofs.SameLemmas.{same_part-Decides, two}
 
 part_same : (a b : PartKey) → part_eq.eq-value.it a b ≡ same_part a b
 part_same (Raw a) (Raw b) = refl

@@ -1,7 +1,7 @@
 -- The tables behind one entry more.
-use Rattle.std.proofs.Common.{◌≡◌, ℕ, ◌+◌, Bool, true, false, ◌||◌, cond, List, [], ◌∷◌, ◌++◌, Some, refl, sym, ap, ◌∙◌, arith}
+use Rattle.std.proofs.Common.{◌≡◌, ℕ, ◌+◌, Bool, true, false, ◌||◌, cond, List, [], ◌∷◌, ◌++◌, refl, sym, ap, ◌∙◌, arith}
 use Rattle.std.specs.List.{fold}
-use Rattle.std.specs.BTreeMap.{BTreeMap, get, is_at}
+use Rattle.std.specs.BTreeMap.{BTreeMap}
 use Rattle.cw_types.specs.declared.ids.Tid.{Tid}
 use Rattle.cw_types.specs.declared.ids.Tag.{Tag}
 use Rattle.cw_types.specs.declared.ids.PartKey.{PartKey}
@@ -10,14 +10,12 @@ use Rattle.cw_txn.specs.declared.entry.Entry.{Entry}
 use Rattle.cw_txn.specs.declared.entry.Entry.TheVariants.{Bump, Commit}
 use Rattle.cw_txn.specs.declared.tables.History.{History}
 use Rattle.cw_txn.specs.declared.tables.Tables.{Tables}
-use Rattle.cw_txn.specs.Same.{same_tid, same_tag}
+use Rattle.cw_types.specs.Same.{same_tid, same_tag}
 use Rattle.cw_txn.specs.Legal.{is_committed}
 use Rattle.cw_txn.specs.History.{after_span}
 use Rattle.cw_txn.specs.declared.commits.Commits.{Commits}
 use Rattle.cw_txn.specs.Committed.{committed_at}
-use Rattle.cw_txn.specs.Tables.{Keeps, epoch_at, history_at, tid_order}
-use Rattle.cw_txn.proofs.SameLemmas.{tid_at, same_tid-flip, same_tid-Decides}
-use Rattle.cw_txn.proofs.RowLemmas.{value-moved}
+use Rattle.cw_txn.specs.Tables.{Keeps, epoch_at, history_at}
 use Rattle.cw_txn.proofs.Walks.{epoch_of-push, is_committed-push, history-push}
 
 one_more : (b : Bool) (n : ℕ) → cond b (n + 1) n ≡ n + cond b 1 0

@@ -1,5 +1,3 @@
-pub mod SameLemmas
-pub mod RowLemmas
 pub mod CommitLemmas
 pub mod MovedRows
 pub mod Walks

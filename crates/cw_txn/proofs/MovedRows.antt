@@ -5,11 +5,11 @@ use Rattle.cw_types.specs.declared.ids.Tid.{Tid}
 use Rattle.cw_types.specs.declared.ids.PartKey.{PartKey}
 use Rattle.cw_types.specs.declared.ids.Span.{Span}
 use Rattle.cw_txn.specs.declared.tables.History.{History}
-use Rattle.cw_txn.specs.Same.{same_tid, same_part}
+use Rattle.cw_types.specs.Same.{same_tid, same_part, tid_order, part_order}
 use Rattle.cw_txn.specs.History.{unset, after_span}
-use Rattle.cw_txn.specs.Tables.{tid_order, part_order, epoch_at, history_at, HasPart}
-use Rattle.cw_txn.proofs.SameLemmas.{tid_at, same_tid-flip, same_tid-Decides, part_at, same_part-flip, same_part-Decides}
-use Rattle.cw_txn.proofs.RowLemmas as rows
+use Rattle.cw_txn.specs.Tables.{epoch_at, history_at, HasPart}
+use Rattle.cw_types.proofs.SameLemmas.{tid_at, same_tid-flip, same_tid-Decides, part_at, same_part-flip, same_part-Decides}
+use Rattle.cw_tables.proofs.RowLemmas as rows
 
 module _ (old new : BTreeMap PartKey History) (span : Span) (there : Bool) (is : there ≡ is_some (get part_order old span.part)) where
   abbrev pub ended : History → History

@@ -5,10 +5,9 @@ use Rattle.std.specs.BTreeMap.{BTreeMap, get, is_at}
 use Rattle.std.proofs.lemmas.List.Folds.{list_any_more}
 use Rattle.cw_types.specs.declared.ids.PartKey.{PartKey}
 use Rattle.cw_txn.specs.declared.entry.SetOffset.{SetOffset}
-use Rattle.cw_txn.specs.Same.{same_part}
-use Rattle.cw_txn.specs.Tables.{part_order}
+use Rattle.cw_types.specs.Same.{same_part, part_order}
 use Rattle.cw_txn.specs.Walk.{AreNoted}
-use Rattle.cw_txn.proofs.SameLemmas.{part_at, same_part-flip}
+use Rattle.cw_types.proofs.SameLemmas.{part_at, same_part-flip}
 
 abbrev pub part_set : SetOffset → PartKey
 part_set set = set.part

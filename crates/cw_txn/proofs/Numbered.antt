@@ -4,9 +4,9 @@ use Rattle.cw_types.specs.declared.ids.Tid.TheVariants.{Raw}
 use Rattle.cw_types.specs.declared.ids.Tag.{Tag}
 use Rattle.cw_txn.specs.declared.entry.Entry.{Entry}
 use Rattle.cw_txn.specs.declared.entry.Entry.TheVariants.{Bump, Commit, Set}
-use Rattle.cw_txn.specs.Same.{same_tag}
+use Rattle.cw_types.specs.Same.{same_tag}
 use Rattle.cw_txn.specs.Legal.{EachFrom, is_commit_of, is_committed, IsNumberedBehind, AreNumbered}
-use Rattle.cw_txn.proofs.SameLemmas.{same_tag-Decides}
+use Rattle.cw_types.proofs.SameLemmas.{same_tag-Decides}
 
 false_by : (b : Bool) → (b ≡ true → ⊥) → b ≡ false
 false_by true never = absurd (never refl)

@@ -11,7 +11,8 @@ use Rattle.cw_txn.specs.declared.tables.Tables.{Tables}
 use Rattle.cw_txn.specs.Legal.{IsLegal, Chains, IsLegalBehind, ChainsBehind}
 use Rattle.cw_txn.specs.Transactions.{WithoutFirst}
 use Rattle.cw_txn.specs.Tables.{Keeps, HasRows, HasPart, KeepsRows, SameRows, IsFirstAt, IsCoordinator}
-use Rattle.cw_txn.proofs.Walks.{Each-push, cut_at}
+use Rattle.cw_types.proofs.Lists.{cut_at}
+use Rattle.cw_txn.proofs.Walks.{Each-push}
 
 pub HasRows-kept : (old new : Tables) → KeepsRows old new → (entry : Entry) → HasRows old entry → HasRows new entry
 HasRows-kept old new keeps (Bump tid) has = keeps.epochs tid has

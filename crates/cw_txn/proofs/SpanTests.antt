@@ -9,11 +9,11 @@ use Rattle.cw_txn.specs.declared.entry.Entry.{Entry}
 use Rattle.cw_txn.specs.declared.entry.Entry.TheVariants.{Commit}
 use Rattle.cw_txn.specs.declared.tables.History.{History}
 use Rattle.cw_txn.specs.declared.tables.Tables.{Tables}
-use Rattle.cw_txn.specs.Same.{same_part}
+use Rattle.cw_types.specs.Same.{same_part}
 use Rattle.cw_txn.specs.History.{GoesOn, SpansChain, after_span}
 use Rattle.cw_txn.specs.Tables.{Keeps, history_at}
 use Rattle.cw_txn.specs.Walk.{IsSpanTest, IsChainTest}
-use Rattle.cw_txn.proofs.SameLemmas.{same_part-Decides}
+use Rattle.cw_types.proofs.SameLemmas.{same_part-Decides}
 
 module _ (part : PartKey) (span : Span) where
   -- one span more chains where it goes on from those before it

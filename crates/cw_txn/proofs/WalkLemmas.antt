@@ -8,7 +8,8 @@ use Rattle.cw_txn.specs.Legal.{Chains, ChainsBehind}
 use Rattle.cw_txn.specs.Allowed.{IsAllowedBehind, AreAllowed, IsFirstNotAllowed, IsFirstUnchained}
 use Rattle.cw_txn.specs.Tables.{Keeps, SameRows}
 use Rattle.cw_txn.specs.Walk.{ChainsUpTo, Walked}
-use Rattle.cw_txn.proofs.Walks.{Each-push, cut_at}
+use Rattle.cw_types.proofs.Lists.{cut_at}
+use Rattle.cw_txn.proofs.Walks.{Each-push}
 
 -- tables that read as before are those of the same list
 pub Keeps-same : (old new : Tables) (entries : List Entry) → SameRows old new → Keeps old entries → Keeps new entries

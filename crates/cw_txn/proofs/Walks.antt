@@ -1,6 +1,6 @@
 -- What the definitions over a list say of a list with one entry more.
-use Rattle.std.proofs.Common.{◌≡◌, ℕ, suc, ◌<◌, take, drop, slice_index_or, drop-cons, add-one, ◌+◌, ◌≤◌, Bool, true, false, ◌||◌, cond, List, [], ◌∷◌, ◌++◌, length, refl, sym, ap, ◌∙◌, subst, arith, append_assoc}
-use Rattle.std.proofs.lemmas.List.{append-nil, take-append-drop}
+use Rattle.std.proofs.Common.{◌≡◌, ◌+◌, ◌≤◌, Bool, true, false, ◌||◌, cond, List, [], ◌∷◌, ◌++◌, length, refl, sym, ◌∙◌, subst, arith, append_assoc}
+use Rattle.std.proofs.lemmas.List.{append-nil}
 use Rattle.std.proofs.lemmas.List.Sums.{fold-append, sum_by-append}
 use Rattle.std.proofs.lemmas.List.Folds.{list_any-append}
 use Rattle.cw_types.specs.declared.ids.Tid.{Tid}
@@ -45,7 +45,3 @@ module _ (P : List Entry → Entry → Type 0) where
 
   pub Each-push : (entries : List Entry) (entry : Entry) → Each P entries → P entries entry → Each P (entries ++ entry ∷ [])
   Each-push entries entry each here = EachFrom-push [] entries entry each here
-
--- a list at a place of an element
-pub cut_at : {A : Type 0} (xs : List A) (at : ℕ) (x : A) → at < length xs → slice_index_or xs at x ≡ x → xs ≡ take at xs ++ x ∷ drop (at + 1) xs
-cut_at {A} xs at x within there = sym (take-append-drop at xs) ∙ ap (λ l. take at xs ++ l) (rw (add-one, drop-cons xs at x) (ap (λ (y : A). y ∷ drop (suc at) xs) there))

@@ -12,7 +12,7 @@ use Rattle.cw_types.specs.declared.ids.Span.{Span}
 use Rattle.cw_txn.specs.declared.entry.Entry.{Entry}
 use Rattle.cw_txn.specs.declared.entry.Entry.TheVariants.{Bump, Commit, Set}
 use Rattle.cw_txn.specs.declared.entry.SetOffset.{SetOffset}
-use Rattle.cw_txn.specs.Same.{same_part, connector_of}
+use Rattle.cw_types.specs.Same.{same_part, connector_of}
 use Rattle.cw_txn.specs.Legal.{Each, IsLegalBehind, Chains, ChainsBehind}
 
 -- a part of a script

@@ -2,14 +2,8 @@
 use Rattle.std.specs.Prelude.{◌≤◌, ◌<◌, ◌||◌, ℕ, Bool, false, List, length, slice_index_or, unwrap_or}
 use Rattle.std.specs.BTreeMap.{BTreeMap, get}
 use Rattle.std.specs.List.{list_any}
-use Rattle.std.specs.declared.cmp.Ordering.{Ordering}
 use Rattle.cw_types.specs.declared.ids.Tag.{Tag}
-use Rattle.cw_types.specs.contracts.ids.TagOrd.TheImpl as tag_ord
-use Rattle.cw_txn.specs.Same.{same_tag}
-
--- the order of the map's keys
-abbrev pub tag_order : Tag → Tag → Ordering
-tag_order = tag_ord.cmp-value.it
+use Rattle.cw_types.specs.Same.{same_tag, tag_order}
 
 -- whether a transaction is one of these
 abbrev pub has_tag : List Tag → Tag → Bool

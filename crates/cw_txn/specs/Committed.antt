@@ -3,7 +3,8 @@ use Rattle.std.specs.Prelude.{◌≡◌, ◌⊎◌, Bool, true, IsSome}
 use Rattle.std.specs.BTreeMap.{get}
 use Rattle.cw_types.specs.declared.ids.Tag.{Tag}
 use Rattle.cw_txn.specs.declared.commits.Commits.{Commits}
-use Rattle.cw_txn.specs.Commits.{tag_order, is_in}
+use Rattle.cw_txn.specs.Commits.{is_in}
+use Rattle.cw_types.specs.Same.{tag_order}
 
 -- whether a transaction is committed
 abbrev pub committed_at : Commits → Tag → Bool

@@ -11,7 +11,7 @@ use Rattle.cw_types.specs.declared.verdict.Verdict.{Verdict}
 use Rattle.cw_types.specs.declared.verdict.Verdict.TheVariants.{Committed, Aborted, Open}
 use Rattle.cw_txn.specs.declared.entry.Entry.{Entry}
 use Rattle.cw_txn.specs.declared.entry.Entry.TheVariants.{Bump, Commit, Set}
-use Rattle.cw_txn.specs.Same.{same_tid, same_tag}
+use Rattle.cw_types.specs.Same.{same_tid, same_tag}
 use Rattle.cw_txn.specs.History.{history, SpansChain}
 
 -- whether an entry bumps the epoch of a producer

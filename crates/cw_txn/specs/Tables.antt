@@ -2,13 +2,11 @@
 use Rattle.std.specs.Prelude.{◌≡◌, ℕ, ◌+◌, ◌≤◌, Bool, false, List, length, Contains, [], ◌∷◌, ◌&&◌, is_some, IsSome, unwrap_or, All, if◌then◌else◌, slice_index_or, take, ◌<◌}
 use Rattle.std.specs.Str.{bytes_eq}
 use Rattle.std.specs.BTreeMap.{BTreeMap, get}
-use Rattle.std.specs.declared.cmp.Ordering.{Ordering}
 use Rattle.cw_types.specs.declared.ids.Tid.{Tid}
 use Rattle.cw_types.specs.declared.ids.Tag.{Tag}
 use Rattle.cw_types.specs.declared.ids.PartKey.{PartKey}
 use Rattle.cw_types.specs.declared.ids.PartKey.TheVariants.{Raw, File, Seq, Sink}
-use Rattle.cw_types.specs.contracts.ids.TidOrd.TheImpl as tid_ord
-use Rattle.cw_types.specs.contracts.ids.PartKeyOrd.TheImpl as part_ord
+use Rattle.cw_types.specs.Same.{tid_order, part_order}
 use Rattle.cw_txn.specs.declared.entry.Entry.{Entry}
 use Rattle.cw_txn.specs.declared.entry.Entry.TheVariants.{Bump, Commit, Set}
 use Rattle.cw_txn.specs.declared.entry.EntryRef.{EntryRef}
@@ -24,13 +22,6 @@ abbrev pub entry_of : EntryRef → Entry
 entry_of (BumpRef tid) = Bump tid.now
 entry_of (CommitRef tag generation spans) = Commit tag.now generation spans.now
 entry_of (SetRef tid epoch list) = Set tid.now epoch list.now
-
--- the orders of the tables' keys
-abbrev pub tid_order : Tid → Tid → Ordering
-tid_order = tid_ord.cmp-value.it
-
-abbrev pub part_order : PartKey → PartKey → Ordering
-part_order = part_ord.cmp-value.it
 
 -- what each table says of a key; a missing row reads as the value before the first entry
 abbrev pub epoch_at : BTreeMap Tid ℕ → Tid → ℕ

@@ -4,7 +4,7 @@ use Rattle.std.specs.List.{IsDistinct}
 use Rattle.cw_types.specs.declared.ids.PartKey.{PartKey}
 use Rattle.cw_types.specs.declared.ids.Span.{Span}
 use Rattle.cw_txn.specs.declared.entry.Entry.{Entry}
-use Rattle.cw_txn.specs.Same.{same_part, connector_of}
+use Rattle.cw_types.specs.Same.{same_part, connector_of}
 use Rattle.cw_txn.specs.History.{history, end_of, GoesOn}
 
 -- the entries in order, and those reserved, each of which takes no memory when it is written

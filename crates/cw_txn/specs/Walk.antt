@@ -1,5 +1,5 @@
 -- What one walk over a list of entries finds. Internal but for what the faults of a list say.
-use Rattle.std.specs.Prelude.{◌≡◌, ℕ, Bool, true, false, List, ◌∷◌, ◌++◌, Option, Some, None, is_some}
+use Rattle.std.specs.Prelude.{◌≡◌, ℕ, Bool, true, false, List, Option, Some, None, is_some}
 use Rattle.std.specs.BTreeMap.{BTreeMap, get}
 use Rattle.std.specs.List.{list_any}
 use Rattle.cw_types.specs.declared.ids.PartKey.{PartKey}
@@ -10,11 +10,11 @@ use Rattle.cw_txn.specs.declared.tables.History.{History}
 use Rattle.cw_txn.specs.declared.tables.Tables.{Tables}
 use Rattle.cw_txn.specs.declared.replay.ListFault.{ListFault}
 use Rattle.cw_txn.specs.declared.replay.ListFault.TheVariants.{NotAllowed, Unchained, Memory}
-use Rattle.cw_txn.specs.Same.{same_part}
+use Rattle.cw_types.specs.Same.{same_part, part_order}
 use Rattle.cw_txn.specs.History.{SpansChain}
 use Rattle.cw_txn.specs.Legal.{Chains, ChainsBehind}
 use Rattle.cw_txn.specs.Allowed.{AreAllowed, IsFirstUnchained}
-use Rattle.cw_txn.specs.Tables.{Keeps, history_at, part_order}
+use Rattle.cw_txn.specs.Tables.{Keeps, history_at}
 
 -- what each fault of a list says
 abbrev pub OnListFault : (not_allowed unchained : ℕ → Type 0) → (memory : Type 0) → ListFault → Type 0

@@ -7,9 +7,9 @@ ghost use Rattle.cw_types.specs.declared.ids.PartKey.{PartKey};
 ghost use Rattle.cw_types.specs.declared.ids.Span.{Span};
 ghost use Rattle.cw_txn.specs.declared.entry.Entry.{Entry};
 ghost use Rattle.cw_txn.specs.declared.entry.SetOffset.{SetOffset};
-ghost use Rattle.cw_txn.specs.Same.{same_part, connector_of};
+ghost use Rattle.cw_types.specs.Same.{same_part, connector_of, part_order};
 ghost use Rattle.cw_txn.specs.Allowed.{IsRaw, IsSourceOf, IsSinkOf, CommitsOwn, SetsOwn, IsAllowedBehind, IsAllowedCommit, IsAllowedSet};
-ghost use Rattle.cw_txn.specs.Tables.{Keeps, part_order, is_of};
+ghost use Rattle.cw_txn.specs.Tables.{Keeps, is_of};
 
 use crate::coordinator::have_distinct_parts;
 use crate::entry::{Entry, SetOffset};

@@ -1,11 +1,11 @@
 //! The table of committed transactions.
 ghost use Rattle.std.specs.Prelude.{◌≡◌, ◌<◌, ◌≤◌, ◌++◌, ◌∷◌, [], ℕ, List, length, slice_index_or, true, false, OnOk, vec_len, vec_capacity, if◌then◌else◌};
 ghost use Rattle.cw_types.specs.declared.ids.Tag.{Tag};
-ghost use Rattle.cw_txn.specs.Same.{same_tag};
+ghost use Rattle.cw_types.specs.Same.{same_tag};
 ghost use Rattle.cw_txn.specs.Commits.{Rises, has_tag, IsAbove, IsFirstNotBelow};
 ghost use Rattle.std.proofs.Props.{props};
 
-use crate::rows::{has_row, make_row, set_row, take_row, value_at};
+use cw_tables::{has_row, make_row, set_row, take_row, value_at};
 use cw_types::Tag;
 use std::alloc::{AllocError, Global};
 use std::collections::BTreeMap;

@@ -5,7 +5,7 @@ ghost use Rattle.cw_types.specs.declared.ids.PartKey.{PartKey};
 ghost use Rattle.cw_types.specs.declared.ids.Tid.{Tid};
 ghost use Rattle.cw_types.specs.declared.ids.Tag.{Tag};
 ghost use Rattle.cw_txn.specs.declared.entry.Entry.{Entry};
-ghost use Rattle.cw_txn.specs.Same.{same_part};
+ghost use Rattle.cw_types.specs.Same.{same_part};
 ghost use Rattle.cw_txn.specs.History.{history, base_of, end_of, GoesOn};
 ghost use Rattle.cw_txn.specs.Allowed.{AreAllowed, IsFirstNotAllowed, IsFirstUnchained, IsRaw};
 ghost use Rattle.cw_txn.specs.Walk.{OnListFault};

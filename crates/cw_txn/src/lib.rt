@@ -3,7 +3,7 @@
 //! Its public contract says that its meaning is a list of entries, that this list is always legal and that
 //! every part's spans chain, and that a commit or a set is refused exactly where its epoch isn't the
 //! producer's last, whatever its generation.
-//! It stands on the ids and spans of `cw_types` and the fields of `cw_bytes`.
+//! It stands on the ids and spans of `cw_types`, the fields of `cw_bytes` and the rows of `cw_tables`.
 #![tactic(auto)]
 
 mod allowed;
@@ -12,7 +12,6 @@ mod commits;
 mod coordinator;
 mod entry;
 mod replay;
-mod rows;
 mod tables;
 #[cfg(test)]
 mod tests;

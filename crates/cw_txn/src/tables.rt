@@ -9,7 +9,7 @@ ghost use Rattle.cw_txn.specs.History.{after_span, after_offset, GoesOn};
 
 use crate::commits::Commits;
 use crate::entry::{Entry, EntryRef, SetOffset};
-use crate::rows::{has_row, make_row, set_row, value_at};
+use cw_tables::{has_row, make_row, set_row, value_at};
 use cw_types::{Name, PartKey, Span, Tag, Tid};
 use std::alloc::{AllocError, Global};
 use std::collections::BTreeMap;
@@ -44,7 +44,8 @@ pub struct Tables {
 
 impl Tables {
     ghost use Rattle.cw_txn.specs.Committed.{committed_at};
-    ghost use Rattle.cw_txn.specs.Tables.{epoch_at, history_at, entry_of, parts_in, part_order, Keeps, HasRows, KeepsRows, SameRows};
+    ghost use Rattle.cw_txn.specs.Tables.{epoch_at, history_at, entry_of, parts_in, Keeps, HasRows, KeepsRows, SameRows};
+    ghost use Rattle.cw_types.specs.Same.{part_order};
     ghost use Rattle.cw_txn.specs.Walk.{IsChainTest};
     ghost use Rattle.std.specs.BTreeMap.{IsOrdered};
 
@@ -156,9 +157,9 @@ impl Tables {
     }
 }
 
-ghost use Rattle.cw_txn.specs.Tables.{epoch_at, history_at, tid_order, part_order, is_of, HasPart};
+ghost use Rattle.cw_txn.specs.Tables.{epoch_at, history_at, is_of, HasPart};
+ghost use Rattle.cw_types.specs.Same.{tid_order, part_order, same_tid};
 ghost use Rattle.cw_txn.specs.Walk.{IsSpanTest};
-ghost use Rattle.cw_txn.specs.Same.{same_tid};
 ghost use Rattle.std.specs.Str.{bytes_eq};
 
 pub fn is_of(part: &PartKey, connector: &Name) -> bool

@@ -3,3 +3,5 @@ pub mod Order
 pub mod Text
 pub mod Decimal
 pub mod Faults
+pub mod Same
+pub mod Verdict

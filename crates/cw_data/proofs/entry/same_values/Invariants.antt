@@ -1,4 +1,4 @@
-use Rattle.std.proofs.Common.{◌≡◌, take, length}
+use Rattle.std.proofs.Common.{◌≡◌, take}
 use Rattle.cw_data.proofs.entry.same_values.Given as goal
 
 abbrev pub invariant-loop-at : goal.invariant-loop-at

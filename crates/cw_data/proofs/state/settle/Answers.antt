@@ -1,5 +1,4 @@
-use Rattle.std.proofs.Common.{◌≡◌, ◌∙◌, ℕ, ◌+◌, ◌++◌, ◌∷◌, [], List, length, take, drop, sym, ap, subst, arith, length-append}
-use Rattle.std.proofs.lemmas.List.{take_at, drop_at, same_from_push}
+use Rattle.std.proofs.Common.{◌≡◌, ◌∙◌, ◌∷◌, [], List, length, take, sym, ap, subst, arith, length-append}
 use Rattle.cw_data.specs.declared.entry.DataEntry.{DataEntry}
 use Rattle.cw_data.specs.Tables.{Keeps, HasRoom, FitsBehind}
 use Rattle.cw_data.proofs.Places.{pushed_front, pushed_end, pushed_last}

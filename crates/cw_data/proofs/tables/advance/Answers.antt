@@ -1,11 +1,10 @@
-use Rattle.std.proofs.Common.{rules, ◌≡◌, ◌∙◌, ℕ, ◌+◌, ◌≤◌, List, [], cond, length, Some, None, sym, ap, subst, arith}
+use Rattle.std.proofs.Common.{rules, ◌≡◌, ◌∙◌, ℕ, List, [], cond, Some, sym, ap, subst, arith}
 use Rattle.std.specs.BTreeMap.{get, is_at}
 use Rattle.std.proofs.lemmas.Slice.Eq.{bytes_eq-Decides}
-use Rattle.cw_data.specs.declared.topic.Topic.{Topic}
 use Rattle.cw_data.specs.Log.{records}
 use Rattle.cw_data.specs.Rows.{TopicAt, WaitsAt}
 use Rattle.cw_data.specs.Tables.{name_order, marks_in, RoomAt}
-use Rattle.cw_data.proofs.RowLemmas.{at_changed, has_changed, others_stay, row_of}
+use Rattle.cw_data.proofs.RowLemmas.{at_changed, others_stay, row_of}
 use Rattle.cw_data.proofs.tables.advance.Goals as goal
 
 pub advance-requires : goal.advance-requires

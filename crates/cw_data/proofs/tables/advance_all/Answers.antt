@@ -1,4 +1,4 @@
-use Rattle.std.proofs.Common.{◌≡◌, ℕ, ◌+◌, List, drop, get_or, sym, subst, arith}
+use Rattle.std.proofs.Common.{ℕ, ◌+◌, List, drop, get_or, sym, subst, arith}
 use Rattle.std.specs.BTreeMap.{get}
 use Rattle.std.proofs.lemmas.List.{drop_more, drop_all}
 use Rattle.cw_data.specs.Rows.{batch_at, WaitsAt}

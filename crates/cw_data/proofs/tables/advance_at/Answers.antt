@@ -1,4 +1,4 @@
-use Rattle.std.proofs.Common.{◌≡◌, true, false, List, ℕ, None, sym, subst}
+use Rattle.std.proofs.Common.{◌≡◌, true, false, None, sym, subst}
 use Rattle.cw_data.specs.Tables.{is_named}
 use Rattle.cw_data.proofs.tables.advance_at.Goals as goal
 

@@ -1,4 +1,4 @@
-use Rattle.std.proofs.Common.{rules, ◌≡◌, ℕ, ◌+◌, ◌≤◌, List, cond, Some, sym, ap, length, arith}
+use Rattle.std.proofs.Common.{rules, ◌≡◌, ℕ, List, cond, Some, sym, ap, length, arith}
 use Rattle.std.specs.BTreeMap.{get, is_at}
 use Rattle.cw_data.specs.Rows.{TopicAt}
 use Rattle.cw_data.specs.Tables.{name_order, RoomAt}

@@ -6,7 +6,7 @@ use Rattle.std.proofs.Common.{arith}
 use Rattle.json.specs.Print.{escape_byte}
 use Rattle.cw_bytes.specs.Spelling.{word, long, text}
 use Rattle.cw_txn.specs.declared.entry.SetOffset.{SetOffset}
-use Rattle.cw_txn.specs.Same.{connector_of}
+use Rattle.cw_types.specs.Same.{connector_of}
 use Rattle.cw_model.specs.Cases.{offset_set, name_s}
 use Rattle.cw_model.proofs.alterations.offsets_are_altered_once_stopped.Goals as goal
 

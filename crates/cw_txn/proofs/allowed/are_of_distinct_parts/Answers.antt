@@ -1,10 +1,9 @@
 use Rattle.std.proofs.Common.{◌≡◌, ◌∙◌, ℕ, Bool, true, false, List, take, get_or, sym, ap, is_some}
 use Rattle.std.specs.List.{list_any}
 use Rattle.cw_txn.specs.declared.entry.SetOffset.{SetOffset}
-use Rattle.cw_txn.specs.Same.{same_part}
+use Rattle.cw_types.specs.Same.{same_part, part_order}
 use Rattle.std.specs.Map.{lookup}
 use Rattle.std.specs.BTreeMap.{is_at}
-use Rattle.cw_txn.specs.Tables.{part_order}
 use Rattle.cw_txn.proofs.DistinctParts.{none_distinct, stay_distinct, not_distinct}
 use Rattle.cw_txn.proofs.Noted.{part_set, noted_more, is_new, is_old}
 use Rattle.cw_txn.proofs.allowed.are_of_distinct_parts.Goals as goal

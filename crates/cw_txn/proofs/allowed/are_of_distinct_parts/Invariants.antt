@@ -1,6 +1,6 @@
 use Rattle.std.proofs.Common.{map, take}
 use Rattle.std.specs.List.{IsDistinct}
-use Rattle.cw_txn.specs.Same.{same_part}
+use Rattle.cw_types.specs.Same.{same_part}
 use Rattle.cw_txn.specs.Walk.{AreNoted}
 use Rattle.cw_txn.proofs.Noted.{part_set}
 use Rattle.cw_txn.proofs.allowed.are_of_distinct_parts.Given as goal

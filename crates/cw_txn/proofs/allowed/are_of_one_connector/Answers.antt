@@ -2,7 +2,7 @@ use Rattle.std.proofs.Common.{◌≡◌, ◌≤◌, ◌∙◌, List, length, get
 use Rattle.std.proofs.lemmas.List.Elements.{All-map}
 use Rattle.cw_types.specs.declared.ids.PartKey.{PartKey}
 use Rattle.cw_txn.specs.declared.entry.SetOffset.{SetOffset}
-use Rattle.cw_txn.specs.Same.{connector_of}
+use Rattle.cw_types.specs.Same.{connector_of}
 use Rattle.cw_txn.proofs.Noted.{part_set}
 use Rattle.cw_txn.proofs.Mapped.{All-of_map}
 use Rattle.cw_txn.proofs.allowed.are_of_one_connector.Goals as goal

@@ -1,6 +1,6 @@
 use Rattle.std.proofs.Common.{map, take}
 use Rattle.std.specs.List.{IsDistinct}
-use Rattle.cw_txn.specs.Same.{same_part}
+use Rattle.cw_types.specs.Same.{same_part}
 use Rattle.cw_txn.proofs.Chained.{part_of}
 use Rattle.cw_txn.proofs.coordinator.have_distinct_parts.Given as goal
 

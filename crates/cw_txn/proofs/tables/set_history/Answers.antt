@@ -1,10 +1,9 @@
 use Rattle.std.proofs.Common.{ℕ, ap, unwrap_or}
 use Rattle.cw_txn.specs.declared.tables.History.{History}
-use Rattle.cw_txn.specs.Same.{same_part}
+use Rattle.cw_types.specs.Same.{same_part, part_order}
 use Rattle.cw_txn.specs.History.{unset}
-use Rattle.cw_txn.specs.Tables.{part_order}
-use Rattle.cw_txn.proofs.SameLemmas.{part_at, same_part-flip, same_part-Decides}
-use Rattle.cw_txn.proofs.RowLemmas.{value-moved}
+use Rattle.cw_types.proofs.SameLemmas.{part_at, same_part-flip, same_part-Decides}
+use Rattle.cw_tables.proofs.RowLemmas.{value-moved}
 use Rattle.cw_txn.proofs.tables.set_history.Goals as goal
 
 pub returns-clause-moved : goal.returns-clause-moved

@@ -1,4 +1,4 @@
-use Rattle.std.proofs.Common.{◌≡◌, ◌∙◌, ℕ, ◌+◌, ◌++◌, ◌∷◌, [], List, length, take, drop, ap, sym, subst, arith, vec_capacity, inl, length-append, refl}
+use Rattle.std.proofs.Common.{◌∙◌, ◌+◌, ◌++◌, ◌∷◌, [], List, length, take, drop, ap, sym, subst, arith, inl, length-append}
 use Rattle.cw_data.specs.declared.entry.DataEntry.{DataEntry}
 use Rattle.cw_data.specs.Tables.{IsFirstAt, HasRoom, FitsBehind, entry_of}
 use Rattle.cw_data.proofs.Settled.{alone, without, taken_is, has_all}

@@ -1,4 +1,4 @@
-use Rattle.std.proofs.Common.{ℕ, [], List, ap, ◌∙◌}
+use Rattle.std.proofs.Common.{[], List, ap, ◌∙◌}
 use Rattle.cw_data.specs.declared.entry.DataEntry.{DataEntry}
 use Rattle.cw_data.specs.Log.{first_unmarked}
 use Rattle.cw_data.specs.Tables.{marks_in, first_ended}

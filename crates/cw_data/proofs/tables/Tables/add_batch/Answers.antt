@@ -1,5 +1,4 @@
-use Rattle.std.proofs.Common.{◌≡◌, ◌∙◌, ℕ, zero, ◌+◌, ◌<◌, ◌++◌, ◌∷◌, [], List, Bool, cond, length, take, is_some, is_none, not, refl, sym, ap, subst, arith, length-append}
-use Rattle.cw_data.specs.declared.entry.DataEntry.{DataEntry}
+use Rattle.std.proofs.Common.{◌≡◌, ◌∙◌, ℕ, ◌+◌, ◌++◌, ◌∷◌, [], List, Bool, cond, length, take, is_some, is_none, refl, sym, ap, arith, length-append}
 use Rattle.cw_data.specs.declared.entry.DataEntry.TheVariants.{Batch as InBatch}
 use Rattle.cw_data.specs.Log.{marker_of}
 use Rattle.cw_data.specs.Tables.{marks_in, places_from}

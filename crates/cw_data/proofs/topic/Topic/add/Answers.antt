@@ -1,8 +1,6 @@
-use Rattle.std.proofs.Common.{◌≡◌, ℕ, ◌+◌, ◌++◌, ◌∷◌, [], List, length, take, refl, sym, ap, subst, ◌∙◌, Bool, true, is_some}
-use Rattle.cw_types.specs.declared.ids.Tag.{Tag}
+use Rattle.std.proofs.Common.{◌+◌, ◌++◌, List, length, take, refl, sym, ap, subst, ◌∙◌}
 use Rattle.cw_data.specs.declared.entry.DataEntry.{DataEntry}
 use Rattle.cw_data.specs.declared.topic.Row.{Row}
-use Rattle.cw_data.specs.Log.{records_in}
 use Rattle.cw_data.specs.Rows.{Waits, rows_in}
 use Rattle.cw_data.specs.Tables.{marks_in}
 use Rattle.cw_data.proofs.Waiting.{waits_more}

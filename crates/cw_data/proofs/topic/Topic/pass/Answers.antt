@@ -1,4 +1,4 @@
-use Rattle.std.proofs.Common.{ℕ, ◌+◌, ◌∙◌, Some, ap}
+use Rattle.std.proofs.Common.{◌+◌, ◌∙◌, Some, ap}
 use Rattle.cw_data.proofs.Waiting.{waits_past, waits_kept}
 use Rattle.cw_data.proofs.topic.Topic.pass.Goals as goal
 use Rattle.cw_data.proofs.topic.Topic.pass.Goals.{then-committed, else-committed}

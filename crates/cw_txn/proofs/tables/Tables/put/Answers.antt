@@ -4,7 +4,7 @@ use Rattle.cw_types.specs.declared.ids.Span.{Span}
 use Rattle.cw_types.specs.declared.ids.Tag.{Tag}
 use Rattle.cw_txn.specs.declared.entry.Entry.{Entry}
 use Rattle.cw_txn.specs.History.{after_span}
-use Rattle.cw_txn.specs.Same.{same_tag}
+use Rattle.cw_types.specs.Same.{same_tag}
 use Rattle.cw_txn.specs.Committed.{committed_at}
 use Rattle.cw_txn.specs.Tables.{Keeps, history_at}
 use Rattle.cw_txn.specs.Walk.{IsChainTest, IsSpanTest}

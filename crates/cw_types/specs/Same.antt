@@ -1,11 +1,15 @@
 -- When two producers, parts or transactions are the same: by kind, by the bytes of their names, and by their numbers.
 use Rattle.std.specs.Prelude.{ℕ, Bool, true, false, ◌&&◌, ◌==◌, List, Option, Some, None}
 use Rattle.std.specs.Str.{bytes_eq}
+use Rattle.std.specs.declared.cmp.Ordering.{Ordering}
 use Rattle.cw_types.specs.declared.ids.Tid.{Tid}
 use Rattle.cw_types.specs.declared.ids.Tid.TheVariants.{Lead, Task, Raw as RawId}
 use Rattle.cw_types.specs.declared.ids.Tag.{Tag}
 use Rattle.cw_types.specs.declared.ids.PartKey.{PartKey}
 use Rattle.cw_types.specs.declared.ids.PartKey.TheVariants.{Raw, File, Seq, Sink}
+use Rattle.cw_types.specs.contracts.ids.TidOrd.TheImpl as tid_ord
+use Rattle.cw_types.specs.contracts.ids.TagOrd.TheImpl as tag_ord
+use Rattle.cw_types.specs.contracts.ids.PartKeyOrd.TheImpl as part_ord
 
 -- one producer id (KIP-98, KIP-618)
 abbrev pub same_tid : Tid → Tid → Bool
@@ -32,3 +36,13 @@ connector_of (Raw a) = None
 connector_of (File a f) = Some a
 connector_of (Seq a i) = Some a
 connector_of (Sink a t) = Some a
+
+-- the orders of ids and parts as keys of a table
+abbrev pub tid_order : Tid → Tid → Ordering
+tid_order = tid_ord.cmp-value.it
+
+abbrev pub tag_order : Tag → Tag → Ordering
+tag_order = tag_ord.cmp-value.it
+
+abbrev pub part_order : PartKey → PartKey → Ordering
+part_order = part_ord.cmp-value.it

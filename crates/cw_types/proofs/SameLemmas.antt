@@ -14,9 +14,7 @@ use Rattle.cw_types.specs.declared.ids.Tid.TheVariants.{Lead, Task, Raw as RawId
 use Rattle.cw_types.specs.declared.ids.Tag.{Tag}
 use Rattle.cw_types.specs.declared.ids.PartKey.{PartKey}
 use Rattle.cw_types.specs.declared.ids.PartKey.TheVariants.{Raw, File, Seq, Sink}
-use Rattle.cw_txn.specs.Same.{same_tid, same_tag, same_part}
-use Rattle.cw_txn.specs.Commits.{tag_order}
-use Rattle.cw_txn.specs.Tables.{tid_order, part_order}
+use Rattle.cw_types.specs.Same.{same_tid, same_tag, same_part, tid_order, tag_order, part_order}
 
 never : {P : Type 0} → (P → ⊥) → Decides false P
 never apart = (λ e. cc, λ p. absurd (apart p))

@@ -1,25 +1,26 @@
-//! Tables by ordered keys whose missing rows read as a default.
-ghost use Rattle.std.specs.Prelude.{◌≡◌, OnOk, IsSome, Some, None, unwrap_or, is_some, if◌then◌else◌, IsTrue, ◌↔◌};
+//! The rows of a table.
+ghost use Rattle.std.specs.Prelude.{◌≡◌, OnOk, IfSome, IsSome, Some, None, unwrap_or, is_some, if◌then◌else◌, IsTrue, ◌↔◌};
+ghost use Rattle.std.specs.declared.cmp.Ordering.TheVariants.{Equal};
 ghost use Rattle.std.specs.BTreeMap.{get, is_at, BTreeMap};
 
 use std::alloc::AllocError;
 use std::collections::BTreeMap;
 
-// What the table says of a key.
+/// What the table says of a key: its row's value, or the one of a missing row.
 pub fn value_at<K: Ord, V: Copy>(table: &BTreeMap<K, V>, key: &K, missing: V) -> V
     ensures { result ≡ unwrap_or (get K.cmp table.now key.now) missing }
 {
     table.get(key).copied().unwrap_or(missing)
 }
 
-// Whether the key has a row.
+/// Whether the key has a row.
 pub fn has_row<K: Ord, V>(table: &BTreeMap<K, V>, key: &K) -> bool
     ensures { IsTrue result ↔ IsSome (get K.cmp table.now key.now) }
 {
     table.contains_key(key)
 }
 
-// A row that reads as a missing one.
+/// Makes a row for a key that has none. It reads as a missing one, so that the table reads as before.
 pub fn make_row<K: Ord + Drop, V: Copy>(
     table: &mut BTreeMap<K, V>,
     key: K,
@@ -34,12 +35,24 @@ pub fn make_row<K: Ord + Drop, V: Copy>(
     Ok(())
 }
 
-// A new value in a row that is there.
+/// Sets a new value in a row that is there.
 pub fn set_row<K: Ord, V: Copy>(table: &mut BTreeMap<K, V>, key: &K, value: V)
     requires { IsSome (get K.cmp table.old key.now) }
     ensures { (q : K) → get K.cmp table.new q ≡ (if is_at (K.cmp key.now) q then Some value else get K.cmp table.old q) }
 {
     if let Some(place) = table.get_mut(key) {
         *place = value;
+    }
+}
+
+/// Takes a row out where there is one, and gives its key.
+pub fn take_row<K: Ord, V: Drop>(table: &mut BTreeMap<K, V>, key: &K) -> Option<K>
+    ensures key { IfSome result (λ k. K.cmp key.now k ≡ Equal) }
+    ensures there { is_some result ≡ is_some (get K.cmp table.old key.now) }
+    ensures taken { (q : K) → get K.cmp table.new q ≡ (if is_at (K.cmp key.now) q then None else get K.cmp table.old q) }
+{
+    match table.remove_entry(key) {
+        Some((key, _)) => Some(key),
+        None => None,
     }
 }
