@@ -10,7 +10,6 @@ mod disks;
 mod file;
 mod held;
 mod memory;
-mod past;
 #[cfg(test)]
 mod tests;
 
@@ -19,4 +18,3 @@ pub use disks::Disks;
 pub use file::FileDisk;
 pub use held::Held;
 pub use memory::{MemDisk, Way};
-pub use past::Past;

@@ -4,7 +4,8 @@ ghost use Rattle.std.proofs.Common.{inl};
 ghost use Rattle.cw_types.specs.Faults.{Rose};
 ghost use Rattle.cw_disk.specs.Memory.{MemState, Leaves, LeftSince, only_this, as_it_reads, image_of};
 
-use crate::{Disk, Failed, Held, Memory, Past};
+use crate::{Disk, Failed, Held, Memory};
+use cw_types::Past;
 use std::alloc::Global;
 use std::marker::Model;
 

@@ -1,3 +1,4 @@
+pub mod Walks
 pub mod Decimals
 pub mod SameLemmas
 pub mod Lists

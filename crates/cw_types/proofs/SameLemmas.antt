@@ -14,7 +14,7 @@ use Rattle.cw_types.specs.declared.ids.Tid.TheVariants.{Lead, Task, Raw as RawId
 use Rattle.cw_types.specs.declared.ids.Tag.{Tag}
 use Rattle.cw_types.specs.declared.ids.PartKey.{PartKey}
 use Rattle.cw_types.specs.declared.ids.PartKey.TheVariants.{Raw, File, Seq, Sink}
-use Rattle.cw_types.specs.Same.{same_tid, same_tag, same_part, tid_order, tag_order, part_order}
+use Rattle.cw_types.specs.Same.{same_tid, same_tag, same_part, tid_order, tag_order, part_order, tid_eq, tag_eq, part_eq}
 
 never : {P : Type 0} → (P → ⊥) → Decides false P
 never apart = (λ e. cc, λ p. absurd (apart p))
@@ -137,3 +137,37 @@ same_tag-flip a b = same_from_decides (same_tag a b) (same_tag b a) (same_tag-De
 
 pub same_part-flip : (a b : PartKey) → same_part a b ≡ same_part b a
 same_part-flip a b = same_from_decides (same_part a b) (same_part b a) (same_part-Decides a b) (Decides-like (same_part b a) sym sym (same_part-Decides b a))
+
+-- the tests of a table by hashes are sameness
+pub tid_eq_is : (a b : Tid) → tid_eq a b ≡ same_tid a b
+tid_eq_is Lead Lead = refl
+tid_eq_is Lead (Task b) = refl
+tid_eq_is Lead (RawId b) = refl
+tid_eq_is (Task a) Lead = refl
+tid_eq_is (Task a) (Task b) = refl
+tid_eq_is (Task a) (RawId b) = refl
+tid_eq_is (RawId a) Lead = refl
+tid_eq_is (RawId a) (Task b) = refl
+tid_eq_is (RawId a) (RawId b) = refl
+
+pub part_eq_is : (a b : PartKey) → part_eq a b ≡ same_part a b
+part_eq_is (Raw a) (Raw b) = refl
+part_eq_is (Raw a) (File b g) = refl
+part_eq_is (Raw a) (Seq b g) = refl
+part_eq_is (Raw a) (Sink b g) = refl
+part_eq_is (File a f) (Raw b) = refl
+part_eq_is (File a f) (File b g) = refl
+part_eq_is (File a f) (Seq b g) = refl
+part_eq_is (File a f) (Sink b g) = refl
+part_eq_is (Seq a f) (Raw b) = refl
+part_eq_is (Seq a f) (File b g) = refl
+part_eq_is (Seq a f) (Seq b g) = refl
+part_eq_is (Seq a f) (Sink b g) = refl
+part_eq_is (Sink a f) (Raw b) = refl
+part_eq_is (Sink a f) (File b g) = refl
+part_eq_is (Sink a f) (Seq b g) = refl
+part_eq_is (Sink a f) (Sink b g) = refl
+
+pub tag_eq_is : (a b : Tag) → tag_eq a b ≡ same_tag a b
+tag_eq_is a b =
+    ap (λ (t : Bool). (a.number == b.number) && ((a.epoch.0 == b.epoch.0) && t)) (tid_eq_is a.tid b.tid) ∙ turned (same_tid a.tid b.tid) (a.epoch.0 == b.epoch.0) (a.number == b.number)

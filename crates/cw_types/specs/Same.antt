@@ -10,6 +10,9 @@ use Rattle.cw_types.specs.declared.ids.PartKey.TheVariants.{Raw, File, Seq, Sink
 use Rattle.cw_types.specs.contracts.ids.TidOrd.TheImpl as tid_ord
 use Rattle.cw_types.specs.contracts.ids.TagOrd.TheImpl as tag_ord
 use Rattle.cw_types.specs.contracts.ids.PartKeyOrd.TheImpl as part_ord
+use Rattle.cw_types.specs.contracts.ids.TidPartialEq.TheImpl as tid_partial_eq
+use Rattle.cw_types.specs.contracts.ids.TagPartialEq.TheImpl as tag_partial_eq
+use Rattle.cw_types.specs.contracts.ids.PartKeyPartialEq.TheImpl as part_partial_eq
 
 -- one producer id (KIP-98, KIP-618)
 abbrev pub same_tid : Tid → Tid → Bool
@@ -46,3 +49,13 @@ tag_order = tag_ord.cmp-value.it
 
 abbrev pub part_order : PartKey → PartKey → Ordering
 part_order = part_ord.cmp-value.it
+
+-- their tests as keys of a table by hashes
+abbrev pub tid_eq : Tid → Tid → Bool
+tid_eq = tid_partial_eq.eq-value.it
+
+abbrev pub tag_eq : Tag → Tag → Bool
+tag_eq = tag_partial_eq.eq-value.it
+
+abbrev pub part_eq : PartKey → PartKey → Bool
+part_eq = part_partial_eq.eq-value.it

@@ -8,7 +8,7 @@ use std::alloc::{AllocError, Global};
 use std::cmp::Ordering;
 
 /// A task of a connector. Tasks are numbered from 0.
-#[derive(Debug, PartialEq, Eq, PartialOrd, Ord, Drop)]
+#[derive(Debug, PartialEq, Eq, PartialOrd, Ord, Hash, Drop)]
 pub struct TaskId {
     /// The connector's name.
     pub connector: Name,
@@ -57,7 +57,7 @@ pub fn order_of_items(a: &Item, b: &Item) -> Ordering
 }
 
 /// The transactional id of a producer (KIP-98, KIP-618).
-#[derive(Debug, PartialEq, Eq, PartialOrd, Ord, Drop)]
+#[derive(Debug, PartialEq, Eq, PartialOrd, Ord, Hash, Drop)]
 pub enum Tid {
     /// The leader of the group, which writes configs.
     Lead,
@@ -81,11 +81,11 @@ impl Tid {
 }
 
 /// A producer's epoch: how often its id was initialised or fenced up to then, 0 before the first time.
-#[derive(Clone, Copy, Debug, PartialEq, Eq, PartialOrd, Ord, Drop)]
+#[derive(Clone, Copy, Debug, PartialEq, Eq, PartialOrd, Ord, Hash, Drop)]
 pub struct Epoch(pub u64);
 
 /// A transaction: its producer's id and epoch, and a number that tells it from others of these.
-#[derive(Debug, PartialEq, Eq, PartialOrd, Ord, Drop)]
+#[derive(Debug, PartialEq, Eq, PartialOrd, Ord, Hash, Drop)]
 pub struct Tag {
     /// The transaction's number under its producer's id and epoch. It stands first, so that tags are
     /// ordered by it, which keeps those of a table in the order of their making.
@@ -110,7 +110,7 @@ impl Tag {
 }
 
 /// What offsets are kept of: a partition of a source, or a topic of a sink.
-#[derive(Debug, PartialEq, Eq, PartialOrd, Ord, Drop)]
+#[derive(Debug, PartialEq, Eq, PartialOrd, Ord, Hash, Drop)]
 pub enum PartKey {
     /// A part of a script, by its number.
     Raw(u32),
