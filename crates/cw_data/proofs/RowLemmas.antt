@@ -37,7 +37,7 @@ row_of P table name q topic found same was = subst (P q) (ap (get name_order tab
 -- what a table of marks says behind one of its rows set
 pub marks_in-set : (old new : BTreeMap Tag (Option Bool)) (tag : Tag) (row : Option Bool) → ((q : Tag) → get tag_order new q ≡ cond (is_at (tag_order tag) q) (Some row) (get tag_order old q))
     → (q : Tag) → marks_in new q ≡ cond (same_tag q tag) row (marks_in old q)
-marks_in-set old new tag row set = value-set tag_order same_tag tag_at same_tag-flip same_tag-Decides None old new tag row set
+marks_in-set old new tag row set = value-set (get tag_order) (λ (a b : Tag). is_at (tag_order a) b) same_tag tag_at same_tag-flip same_tag-Decides None old new tag row set
 
 -- a new row that reads as none
 same_none : (b : Bool) (was : Option Bool) → (b ≡ true → was ≡ None) → cond b None was ≡ was

@@ -59,7 +59,7 @@ module _ (old : Tables) (calls : List OffsetCall) (kept : Keeps old calls) where
       → ((q : PartKey) → get part_order parts q ≡ cond (is_at (part_order part) q) (Some (Some (value_at (length calls) to))) (get part_order old.parts q))
       → Keeps (record { parts = parts; waiting = old.waiting }) (calls ++ Set part to ∷ [])
   keeps_set parts part to set = record {
-    settled = λ q. value-set part_order same_part part_at same_part-flip same_part-Decides None old.parts parts part (Some (value_at (length calls) to)) set q
+    settled = λ q. value-set (get part_order) (λ (a b : PartKey). is_at (part_order a) b) same_part part_at same_part-flip same_part-Decides None old.parts parts part (Some (value_at (length calls) to)) set q
         ∙ ap (λ s. cond (same_part q part) (Some (value_at (length calls) to)) s) (kept.settled q)
         ∙ ap (λ (n : ℕ). cond (same_part q part) (Some (value_at n to)) (settled q 0 calls)) (omega arith)
         ∙ sym (settled-push (Set part to) (commits-set part to) q calls 0 ∙ one_or (same_part q part) (value_at (0 + length calls) to) (settled q 0 calls));
@@ -87,7 +87,7 @@ module _ (parts : BTreeMap PartKey (Option Settled)) (part : PartKey) (place : �
       → ((q : PartKey) → get part_order now q ≡ cond (is_at (part_order part) q) (Some (Some (value_at place (Some to)))) (get part_order parts q))
       → (q : PartKey) → settled_at now q ≡ moved q
   moved_to now behind set q =
-      value-set part_order same_part part_at same_part-flip same_part-Decides None parts now part (Some (value_at place (Some to))) set q
+      value-set (get part_order) (λ (a b : PartKey). is_at (part_order a) b) same_part part_at same_part-flip same_part-Decides None parts now part (Some (value_at place (Some to))) set q
       ∙ taken (same_part q part) (is_behind (settled_at parts q) place) (value_at place (Some to)) (settled_at parts q) (λ same. behind_at q same ∙ behind)
 
   pub not_moved : is_behind (settled_at parts part) place ≡ false → (q : PartKey) → settled_at parts q ≡ moved q

@@ -4,6 +4,7 @@
 //! It stands on std alone.
 #![tactic(auto)]
 
+pub mod hashed;
 mod rows;
 #[cfg(test)]
 mod tests;

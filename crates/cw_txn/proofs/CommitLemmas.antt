@@ -1,19 +1,17 @@
 -- What a changed table of committed transactions says.
-use Rattle.std.proofs.Common.{◌≡◌, ◌≢◌, ◌≤◌, ◌<◌, ◌⊎◌, ℕ, suc, ◌+◌, ◌-◌, ◌==◌, Bool, true, false, ◌&&◌, ◌||◌, cond, List, [], ◌∷◌, ◌++◌, length, get_or, Option, Some, None, IsSome, unwrap_or, is_some, refl, sym, ap, ◌∙◌, arith, inl, inr, length-append, nat_lt}
-use Rattle.std.specs.BTreeMap.{BTreeMap, get, is_at}
-use Rattle.std.specs.declared.cmp.Ordering.TheVariants.{Equal}
-use Rattle.std.specs.Ordering.{is_eq}
+use Rattle.std.proofs.Common.{BuildHasherDefault, FoldHasher, ◌≡◌, ◌≢◌, ◌≤◌, ◌<◌, ◌⊎◌, ℕ, suc, ◌+◌, ◌-◌, ◌==◌, Bool, true, false, ◌&&◌, ◌||◌, cond, List, [], ◌∷◌, ◌++◌, length, get_or, Option, Some, None, IsSome, unwrap_or, is_some, refl, sym, ap, ◌∙◌, arith, inl, inr, length-append, nat_lt}
+use Rattle.std.specs.HashMap.{HashMap, get}
 use Rattle.cw_tables.proofs.RowLemmas.{value-set}
 use Rattle.std.proofs.lemmas.Bool.{cases_lt, cases_order}
 use Rattle.std.proofs.lemmas.Bool.Decides.{nat_tests}
 use Rattle.std.proofs.lemmas.List.{get_or_default, get_or_push, get_or_append_left}
 use Rattle.std.proofs.lemmas.List.Folds.{list_any_at, list_any-append}
 use Rattle.cw_types.specs.declared.ids.Tag.{Tag}
-use Rattle.cw_types.specs.Same.{same_tag, same_tid, tag_order}
+use Rattle.cw_types.specs.Same.{same_tag, same_tid, tag_eq}
 use Rattle.cw_txn.specs.declared.commits.Commits.{Commits}
 use Rattle.cw_txn.specs.Commits.{Rises, IsAbove, IsFirstNotBelow, IsCutBetween, is_in, has_tag}
 use Rattle.cw_txn.specs.Committed.{committed_at, HasTag}
-use Rattle.cw_types.proofs.SameLemmas.{tag_at, same_tag-flip, same_tag-Decides}
+use Rattle.cw_types.proofs.SameLemmas.{tag_eq_is, same_tag-flip, same_tag-Decides}
 
 and_no : (a : Bool) → (a && false) ≡ false
 and_no true = refl
@@ -117,40 +115,40 @@ has_more tags tag q = list_any-append (same_tag q) tags (tag ∷ []) ∙ ap (λ 
     or_false false = refl
 
 -- one more in the list, whose row is gone
-pub set_in_list : (rising longer : List Tag) (old new : BTreeMap Tag Bool) (tag : Tag) → longer ≡ rising ++ tag ∷ []
-    → ((q : Tag) → same_tag q tag ≡ false → unwrap_or (get tag_order new q) false ≡ unwrap_or (get tag_order old q) false)
+pub set_in_list : {S : Type 0} (rising longer : List Tag) (old new : HashMap Tag Bool S) (tag : Tag) → longer ≡ rising ++ tag ∷ []
+    → ((q : Tag) → same_tag q tag ≡ false → unwrap_or (get tag_eq new q) false ≡ unwrap_or (get tag_eq old q) false)
     → (q : Tag) → is_in longer new q ≡ cond (same_tag q tag) true (is_in rising old q)
 set_in_list rising longer old new tag is same q =
-    ap (λ (b : Bool). b || unwrap_or (get tag_order new q) false) (ap (λ (l : List Tag). has_tag l q) is ∙ has_more rising tag q)
-    ∙ or_cond (has_tag rising q) (same_tag q tag) (unwrap_or (get tag_order new q) false)
+    ap (λ (b : Bool). b || unwrap_or (get tag_eq new q) false) (ap (λ (l : List Tag). has_tag l q) is ∙ has_more rising tag q)
+    ∙ or_cond (has_tag rising q) (same_tag q tag) (unwrap_or (get tag_eq new q) false)
     ∙ rest (same_tag q tag) refl
   where
-    rest : (b : Bool) → same_tag q tag ≡ b → cond b true (has_tag rising q || unwrap_or (get tag_order new q) false) ≡ cond b true (has_tag rising q || unwrap_or (get tag_order old q) false)
+    rest : (b : Bool) → same_tag q tag ≡ b → cond b true (has_tag rising q || unwrap_or (get tag_eq new q) false) ≡ cond b true (has_tag rising q || unwrap_or (get tag_eq old q) false)
     rest true one = refl
     rest false other = ap (λ (b : Bool). has_tag rising q || b) (same q other)
 
 -- a row that is set
-pub set_in_map : (rising : List Tag) (old new : BTreeMap Tag Bool) (tag : Tag) → ((q : Tag) → get tag_order new q ≡ cond (is_at (tag_order tag) q) (Some true) (get tag_order old q))
+pub set_in_map : {S : Type 0} (rising : List Tag) (old new : HashMap Tag Bool S) (tag : Tag) → ((q : Tag) → get tag_eq new q ≡ cond (tag_eq tag q) (Some true) (get tag_eq old q))
     → (q : Tag) → is_in rising new q ≡ cond (same_tag q tag) true (is_in rising old q)
 set_in_map rising old new tag set q =
-    ap (λ (b : Bool). has_tag rising q || b) (value-set tag_order same_tag tag_at same_tag-flip same_tag-Decides false old new tag true set q)
-    ∙ or_row (has_tag rising q) (same_tag q tag) (unwrap_or (get tag_order old q) false)
+    ap (λ (b : Bool). has_tag rising q || b) (value-set (get tag_eq) tag_eq same_tag tag_eq_is same_tag-flip same_tag-Decides false old new tag true set q)
+    ∙ or_row (has_tag rising q) (same_tag q tag) (unwrap_or (get tag_eq old q) false)
 
 -- a row that is taken
-pub taken_row : (old new : BTreeMap Tag Bool) (tag : Tag) → ((q : Tag) → get tag_order new q ≡ cond (is_at (tag_order tag) q) None (get tag_order old q))
-    → (q : Tag) → same_tag q tag ≡ false → get tag_order new q ≡ get tag_order old q
-taken_row old new tag taken q other = taken q ∙ ap (λ (b : Bool). cond b None (get tag_order old q)) (tag_at tag q ∙ same_tag-flip tag q ∙ other)
+pub taken_row : {S : Type 0} (old new : HashMap Tag Bool S) (tag : Tag) → ((q : Tag) → get tag_eq new q ≡ cond (tag_eq tag q) None (get tag_eq old q))
+    → (q : Tag) → same_tag q tag ≡ false → get tag_eq new q ≡ get tag_eq old q
+taken_row old new tag taken q other = taken q ∙ ap (λ (b : Bool). cond b None (get tag_eq old q)) (tag_eq_is tag q ∙ same_tag-flip tag q ∙ other)
 
 -- the key of a row is the one that was asked for
-pub same_key : (tag key : Tag) → tag_order tag key ≡ Equal → key ≡ tag
-same_key tag key same = sym ((same_tag-Decides tag key).0 (sym (tag_at tag key) ∙ ap is_eq same))
+pub same_key : (tag key : Tag) → tag_eq tag key ≡ true → key ≡ tag
+same_key tag key same = sym ((same_tag-Decides tag key).0 (sym (tag_eq_is tag key) ∙ same))
 
 -- room stays, and what is committed needs none
-pub room_kept : (old : Commits) (rising : List Tag) (others : BTreeMap Tag Bool) (tag : Tag) → ((q : Tag) → is_in rising others q ≡ cond (same_tag q tag) true (committed_at old q))
-    → ((q : Tag) → same_tag q tag ≡ false → IsSome (get tag_order old.others q) → IsSome (get tag_order others q)) → (q : Tag) → HasTag old q → IsSome (get tag_order others q) ⊎ (is_in rising others q ≡ true)
+pub room_kept : {S : Type 0} (old : Commits) (rising : List Tag) (others : HashMap Tag Bool S) (tag : Tag) → ((q : Tag) → is_in rising others q ≡ cond (same_tag q tag) true (committed_at old q))
+    → ((q : Tag) → same_tag q tag ≡ false → IsSome (get tag_eq old.others q) → IsSome (get tag_eq others q)) → (q : Tag) → HasTag old q → IsSome (get tag_eq others q) ⊎ (is_in rising others q ≡ true)
 room_kept old rising others tag set rows q has = by_test (same_tag q tag) refl
   where
-    by_test : (b : Bool) → same_tag q tag ≡ b → IsSome (get tag_order others q) ⊎ (is_in rising others q ≡ true)
+    by_test : (b : Bool) → same_tag q tag ≡ b → IsSome (get tag_eq others q) ⊎ (is_in rising others q ≡ true)
     by_test true one = inr (set q ∙ ap (λ (b : Bool). cond b true (committed_at old q)) one)
     by_test false other =
         elim has [
@@ -159,10 +157,10 @@ room_kept old rising others tag set rows q has = by_test (same_tag q tag) refl
         ]
 
 -- what is committed without a row is committed already
-pub done_already : (c : Commits) (tag : Tag) → HasTag c tag → is_some (get tag_order c.others tag) ≡ false → committed_at c tag ≡ true
+pub done_already : (c : Commits) (tag : Tag) → HasTag c tag → is_some (get tag_eq c.others tag) ≡ false → committed_at c tag ≡ true
 done_already c tag has none =
     elim has [
-      | inl row ↦ absurd (no_row (get tag_order c.others tag) row none)
+      | inl row ↦ absurd (no_row (get tag_eq c.others tag) row none)
       | inr done ↦ done
     ]
   where
@@ -178,17 +176,17 @@ nothing_new c tag done q = by_test (same_tag q tag) refl
     by_test false other = refl
 
 -- where there is no row, nothing is taken, and the transaction is committed already
-pub none_taken : (c : Commits) (new : BTreeMap Tag Bool) (tag : Tag) → ((q : Tag) → get tag_order new q ≡ cond (is_at (tag_order tag) q) None (get tag_order c.others q)) → HasTag c tag
-    → is_some (get tag_order c.others tag) ≡ false → (q : Tag) → is_in c.rising.items new q ≡ cond (same_tag q tag) true (committed_at c q)
+pub none_taken : (c : Commits) (new : HashMap Tag Bool (BuildHasherDefault FoldHasher)) (tag : Tag) → ((q : Tag) → get tag_eq new q ≡ cond (tag_eq tag q) None (get tag_eq c.others q)) → HasTag c tag
+    → is_some (get tag_eq c.others tag) ≡ false → (q : Tag) → is_in c.rising.items new q ≡ cond (same_tag q tag) true (committed_at c q)
 none_taken c new tag taken has none q = ap (λ (o : Option Bool). has_tag c.rising.items q || unwrap_or o false) (by_test (same_tag q tag) refl) ∙ nothing_new c tag (done_already c tag has none) q
   where
     no_row : (o : Option Bool) → is_some o ≡ false → o ≡ None
     no_row None none = refl
     no_row (Some b) none = cc
 
-    by_test : (b : Bool) → same_tag q tag ≡ b → get tag_order new q ≡ get tag_order c.others q
-    by_test true one = taken q ∙ ap (λ (b : Bool). cond b None (get tag_order c.others q)) (tag_at tag q ∙ same_tag-flip tag q ∙ one)
-        ∙ sym (ap (get tag_order c.others) ((same_tag-Decides q tag).0 one) ∙ no_row (get tag_order c.others tag) none)
+    by_test : (b : Bool) → same_tag q tag ≡ b → get tag_eq new q ≡ get tag_eq c.others q
+    by_test true one = taken q ∙ ap (λ (b : Bool). cond b None (get tag_eq c.others q)) (tag_eq_is tag q ∙ same_tag-flip tag q ∙ one)
+        ∙ sym (ap (get tag_eq c.others) ((same_tag-Decides q tag).0 one) ∙ no_row (get tag_eq c.others tag) none)
     by_test false other = taken_row c.others new tag taken q other
 
 -- a step of the search for a place by its number

@@ -1,21 +1,24 @@
 -- The tables behind one entry more.
 use Rattle.std.proofs.Common.{◌≡◌, ℕ, ◌+◌, Bool, true, false, ◌||◌, cond, List, [], ◌∷◌, ◌++◌, refl, sym, ap, ◌∙◌, arith}
 use Rattle.std.specs.List.{fold}
-use Rattle.std.specs.BTreeMap.{BTreeMap}
 use Rattle.cw_types.specs.declared.ids.Tid.{Tid}
 use Rattle.cw_types.specs.declared.ids.Tag.{Tag}
 use Rattle.cw_types.specs.declared.ids.PartKey.{PartKey}
 use Rattle.cw_types.specs.declared.ids.Span.{Span}
 use Rattle.cw_txn.specs.declared.entry.Entry.{Entry}
 use Rattle.cw_txn.specs.declared.entry.Entry.TheVariants.{Bump, Commit}
-use Rattle.cw_txn.specs.declared.tables.History.{History}
+use Rattle.cw_txn.specs.declared.parts.History.{History}
 use Rattle.cw_txn.specs.declared.tables.Tables.{Tables}
 use Rattle.cw_types.specs.Same.{same_tid, same_tag}
 use Rattle.cw_txn.specs.Legal.{is_committed}
 use Rattle.cw_txn.specs.History.{after_span}
 use Rattle.cw_txn.specs.declared.commits.Commits.{Commits}
 use Rattle.cw_txn.specs.Committed.{committed_at}
-use Rattle.cw_txn.specs.Tables.{Keeps, epoch_at, history_at}
+use Rattle.cw_txn.specs.declared.epochs.Epochs.{Epochs}
+use Rattle.cw_txn.specs.declared.parts.Parts.{Parts}
+use Rattle.cw_txn.specs.EpochRows.{epoch_at}
+use Rattle.cw_txn.specs.PartRows.{history_at}
+use Rattle.cw_txn.specs.Tables.{Keeps}
 use Rattle.cw_txn.proofs.Walks.{epoch_of-push, is_committed-push, history-push}
 
 one_more : (b : Bool) (n : ℕ) → cond b (n + 1) n ≡ n + cond b 1 0
@@ -33,7 +36,7 @@ or_no true = refl
 or_no false = refl
 
 module _ (old : Tables) (entries : List Entry) (kept : Keeps old entries) where
-  pub keeps_bump : (epochs : BTreeMap Tid ℕ) (tid : Tid) → ((q : Tid) → epoch_at epochs q ≡ cond (same_tid q tid) (epoch_at old.epochs q + 1) (epoch_at old.epochs q))
+  pub keeps_bump : (epochs : Epochs) (tid : Tid) → ((q : Tid) → epoch_at epochs q ≡ cond (same_tid q tid) (epoch_at old.epochs q + 1) (epoch_at old.epochs q))
       → Keeps (record { epochs = epochs; committed = old.committed; parts = old.parts }) (entries ++ Bump tid ∷ [])
   keeps_bump epochs tid raised = record {
     epochs = λ q. raised q ∙ one_more (same_tid q tid) (epoch_at old.epochs q) ∙ ap (λ n. n + cond (same_tid q tid) 1 0) (kept.epochs q) ∙ sym (epoch_of-push q entries (Bump tid));
@@ -41,7 +44,7 @@ module _ (old : Tables) (entries : List Entry) (kept : Keeps old entries) where
     parts = λ q. kept.parts q ∙ sym (history-push q entries (Bump tid));
   }
 
-  module _ (committed : Commits) (parts : BTreeMap PartKey History) (tag : Tag) (generation : ℕ) (spans : List Span)
+  module _ (committed : Commits) (parts : Parts) (tag : Tag) (generation : ℕ) (spans : List Span)
       (set : (q : Tag) → committed_at committed q ≡ cond (same_tag q tag) true (committed_at old.committed q))
       (moved : (part : PartKey) → history_at parts part ≡ fold (after_span part) (history_at old.parts part) spans) where
     pub keeps_commit : Keeps (record { epochs = old.epochs; committed = committed; parts = parts }) (entries ++ Commit tag generation spans ∷ [])

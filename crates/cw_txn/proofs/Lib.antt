@@ -1,5 +1,4 @@
 pub mod CommitLemmas
-pub mod MovedRows
 pub mod Walks
 pub mod Kept
 pub mod Equals

@@ -10,7 +10,8 @@ use Rattle.cw_txn.specs.declared.entry.SetOffset.{SetOffset}
 use Rattle.cw_txn.specs.declared.tables.Tables.{Tables}
 use Rattle.cw_txn.specs.Legal.{IsLegal, Chains, IsLegalBehind, ChainsBehind}
 use Rattle.cw_txn.specs.Transactions.{WithoutFirst}
-use Rattle.cw_txn.specs.Tables.{Keeps, HasRows, HasPart, KeepsRows, SameRows, IsFirstAt, IsCoordinator}
+use Rattle.cw_txn.specs.PartRows.{HasPart}
+use Rattle.cw_txn.specs.Tables.{Keeps, HasRows, KeepsRows, SameRows, IsFirstAt, IsCoordinator}
 use Rattle.cw_types.proofs.Lists.{cut_at}
 use Rattle.cw_txn.proofs.Walks.{Each-push}
 

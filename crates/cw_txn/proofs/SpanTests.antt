@@ -1,17 +1,18 @@
 -- What a walk over the spans of a commit finds of their parts' chains.
 use Rattle.std.proofs.Common.{◌≡◌, ℕ, Bool, true, false, ◌&&◌, List, [], ◌∷◌, ◌++◌, IsTrue, ◌↔◌, refl, sym, subst}
 use Rattle.std.specs.List.{fold}
-use Rattle.std.specs.BTreeMap.{BTreeMap}
 use Rattle.cw_types.specs.declared.ids.PartKey.{PartKey}
 use Rattle.cw_types.specs.declared.ids.Tag.{Tag}
 use Rattle.cw_types.specs.declared.ids.Span.{Span}
 use Rattle.cw_txn.specs.declared.entry.Entry.{Entry}
 use Rattle.cw_txn.specs.declared.entry.Entry.TheVariants.{Commit}
-use Rattle.cw_txn.specs.declared.tables.History.{History}
+use Rattle.cw_txn.specs.declared.parts.History.{History}
 use Rattle.cw_txn.specs.declared.tables.Tables.{Tables}
 use Rattle.cw_types.specs.Same.{same_part}
 use Rattle.cw_txn.specs.History.{GoesOn, SpansChain, after_span}
-use Rattle.cw_txn.specs.Tables.{Keeps, history_at}
+use Rattle.cw_txn.specs.declared.parts.Parts.{Parts}
+use Rattle.cw_txn.specs.PartRows.{history_at}
+use Rattle.cw_txn.specs.Tables.{Keeps}
 use Rattle.cw_txn.specs.Walk.{IsSpanTest, IsChainTest}
 use Rattle.cw_types.proofs.SameLemmas.{same_part-Decides}
 
@@ -31,7 +32,7 @@ module _ (part : PartKey) (span : Span) where
   SpansChain-last h [] chain same = chain.0 same
   SpansChain-last h (s ∷ spans) chain same = SpansChain-last (after_span part h s) spans chain.1 same
 
-module _ (old new : BTreeMap PartKey History) (spans : List Span) (span : Span) (moved : (part : PartKey) → history_at new part ≡ fold (after_span part) (history_at old part) spans) where
+module _ (old new : Parts) (spans : List Span) (span : Span) (moved : (part : PartKey) → history_at new part ≡ fold (after_span part) (history_at old part) spans) where
   goes_on_of : GoesOn (history_at new span.part) span → (part : PartKey) → same_part part span.part ≡ true → GoesOn (fold (after_span part) (history_at old part) spans) span
   goes_on_of on part same =
       let here : GoesOn (history_at new part) span = subst (λ (q : PartKey). GoesOn (history_at new q) span) (sym ((same_part-Decides part span.part).0 same)) on in

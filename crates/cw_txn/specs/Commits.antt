@@ -1,17 +1,17 @@
 -- Transactions in the order of their numbers. Internal: no public contract cites this.
 use Rattle.std.specs.Prelude.{◌≤◌, ◌<◌, ◌||◌, ℕ, Bool, false, List, length, slice_index_or, unwrap_or}
-use Rattle.std.specs.BTreeMap.{BTreeMap, get}
+use Rattle.std.specs.HashMap.{HashMap, get}
 use Rattle.std.specs.List.{list_any}
 use Rattle.cw_types.specs.declared.ids.Tag.{Tag}
-use Rattle.cw_types.specs.Same.{same_tag, tag_order}
+use Rattle.cw_types.specs.Same.{same_tag, tag_eq}
 
 -- whether a transaction is one of these
 abbrev pub has_tag : List Tag → Tag → Bool
 has_tag tags tag = list_any (λ other. same_tag tag other) tags
 
 -- whether a transaction is committed: those whose numbers rise, and the rows of the others
-abbrev pub is_in : List Tag → BTreeMap Tag Bool → Tag → Bool
-is_in rising others tag = has_tag rising tag || unwrap_or (get tag_order others tag) false
+abbrev pub is_in : {S : Type 0} → List Tag → HashMap Tag Bool S → Tag → Bool
+is_in rising others tag = has_tag rising tag || unwrap_or (get tag_eq others tag) false
 
 -- each number is above those before it
 abbrev pub Rises : List Tag → Type 0

@@ -1,4 +1,6 @@
 pub mod History
+pub mod EpochRows
+pub mod PartRows
 pub mod Legal
 pub mod Allowed
 pub mod Transactions

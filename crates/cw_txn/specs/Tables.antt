@@ -1,20 +1,20 @@
 -- What the coordinator's tables keep of its list, so that no look-up walks it. Internal: no public contract cites this.
-use Rattle.std.specs.Prelude.{◌≡◌, ℕ, ◌+◌, ◌≤◌, Bool, false, List, length, Contains, [], ◌∷◌, ◌&&◌, is_some, IsSome, unwrap_or, All, if◌then◌else◌, slice_index_or, take, ◌<◌}
+use Rattle.std.specs.Prelude.{◌≡◌, ℕ, ◌+◌, ◌≤◌, Bool, false, List, length, Contains, [], ◌∷◌, ◌&&◌, is_some, IsSome, All, if◌then◌else◌, slice_index_or, take, ◌<◌}
 use Rattle.std.specs.Str.{bytes_eq}
-use Rattle.std.specs.BTreeMap.{BTreeMap, get}
 use Rattle.cw_types.specs.declared.ids.Tid.{Tid}
 use Rattle.cw_types.specs.declared.ids.Tag.{Tag}
 use Rattle.cw_types.specs.declared.ids.PartKey.{PartKey}
 use Rattle.cw_types.specs.declared.ids.PartKey.TheVariants.{Raw, File, Seq, Sink}
-use Rattle.cw_types.specs.Same.{tid_order, part_order}
 use Rattle.cw_txn.specs.declared.entry.Entry.{Entry}
 use Rattle.cw_txn.specs.declared.entry.Entry.TheVariants.{Bump, Commit, Set}
 use Rattle.cw_txn.specs.declared.entry.EntryRef.{EntryRef}
 use Rattle.cw_txn.specs.declared.entry.EntryRef.TheVariants.{Bump as BumpRef, Commit as CommitRef, Set as SetRef}
-use Rattle.cw_txn.specs.declared.tables.History.{History}
+use Rattle.cw_txn.specs.declared.parts.History.{History}
+use Rattle.cw_txn.specs.EpochRows.{epoch_row, epoch_at}
+use Rattle.cw_txn.specs.PartRows.{history_at, HasPart}
 use Rattle.cw_txn.specs.declared.tables.Tables.{Tables}
 use Rattle.cw_txn.specs.Committed.{committed_at, HasTag}
-use Rattle.cw_txn.specs.History.{history, unset}
+use Rattle.cw_txn.specs.History.{history}
 use Rattle.cw_txn.specs.Legal.{epoch_of, is_committed, IsLegal, Chains}
 
 -- the entry that is borrowed in parts
@@ -22,13 +22,6 @@ abbrev pub entry_of : EntryRef → Entry
 entry_of (BumpRef tid) = Bump tid.now
 entry_of (CommitRef tag generation spans) = Commit tag.now generation spans.now
 entry_of (SetRef tid epoch list) = Set tid.now epoch list.now
-
--- what each table says of a key; a missing row reads as the value before the first entry
-abbrev pub epoch_at : BTreeMap Tid ℕ → Tid → ℕ
-epoch_at epochs tid = unwrap_or (get tid_order epochs tid) 0
-
-abbrev pub history_at : BTreeMap PartKey History → PartKey → History
-history_at parts part = unwrap_or (get part_order parts part) unset
 
 -- the tables are those of the entries
 pub record Keeps (tables : Tables) (entries : List Entry) : Type 0 where
@@ -48,19 +41,15 @@ abbrev pub parts_in : List ℕ → List (PartKey × History) → List PartKey
 parts_in connector [] = []
 parts_in connector (e ∷ es) = if is_some e.1.end && is_of connector e.0 then e.0 ∷ parts_in connector es else parts_in connector es
 
--- a part has a row
-abbrev pub HasPart : BTreeMap PartKey History → PartKey → Type 0
-HasPart parts part = IsSome (get part_order parts part)
-
 -- each row that the entry changes is there
 abbrev pub HasRows : Tables → Entry → Type 0
-HasRows tables (Bump tid) = IsSome (get tid_order tables.epochs tid)
+HasRows tables (Bump tid) = IsSome (epoch_row tables.epochs tid)
 HasRows tables (Commit tag generation spans) = HasTag tables.committed tag × All (λ span. HasPart tables.parts span.part) spans
 HasRows tables (Set tid epoch list) = All (λ set. HasPart tables.parts set.part) list
 
 -- no row was lost
 pub record KeepsRows (old new : Tables) : Type 0 where
-  pub epochs : (tid : Tid) → IsSome (get tid_order old.epochs tid) → IsSome (get tid_order new.epochs tid)
+  pub epochs : (tid : Tid) → IsSome (epoch_row old.epochs tid) → IsSome (epoch_row new.epochs tid)
   pub committed : (tag : Tag) → HasTag old.committed tag → HasTag new.committed tag
   pub parts : (part : PartKey) → HasPart old.parts part → HasPart new.parts part
 

@@ -2,12 +2,12 @@
 ghost use Rattle.std.specs.Prelude.{◌≡◌, ◌↔◌, IsTrue, IfOk, OnOk, All, List, ℕ, map, length, Some, true, is_none, if◌then◌else◌};
 ghost use Rattle.std.specs.List.{IsDistinct};
 ghost use Rattle.std.specs.Option.{option_copied};
-ghost use Rattle.std.specs.BTreeMap.{get, is_at};
+ghost use Rattle.std.specs.HashMap.{get};
 ghost use Rattle.cw_types.specs.declared.ids.PartKey.{PartKey};
 ghost use Rattle.cw_types.specs.declared.ids.Span.{Span};
 ghost use Rattle.cw_txn.specs.declared.entry.Entry.{Entry};
 ghost use Rattle.cw_txn.specs.declared.entry.SetOffset.{SetOffset};
-ghost use Rattle.cw_types.specs.Same.{same_part, connector_of, part_order};
+ghost use Rattle.cw_types.specs.Same.{same_part, part_eq, connector_of};
 ghost use Rattle.cw_txn.specs.Allowed.{IsRaw, IsSourceOf, IsSinkOf, CommitsOwn, SetsOwn, IsAllowedBehind, IsAllowedCommit, IsAllowedSet};
 ghost use Rattle.cw_txn.specs.Tables.{Keeps, is_of};
 
@@ -16,7 +16,7 @@ use crate::entry::{Entry, SetOffset};
 use crate::tables::{Tables, is_of, same_names};
 use cw_types::{Epoch, Name, PartKey, Span, Tag, Tid};
 use std::alloc::{AllocError, Global};
-use std::collections::BTreeMap;
+use std::collections::HashMap;
 
 // Whether an entry may stand at this place, behind those of the tables.
 pub fn is_allowed(
@@ -187,7 +187,7 @@ fn is_sink_of(connector: &Name, part: &PartKey) -> bool
 fn are_of_distinct_parts(alloc: Global, list: &[SetOffset]) -> Result<bool, AllocError>
     ensures { IfOk result (λ distinct. IsTrue distinct ↔ IsDistinct same_part (map (λ set. set.part) list.now)) }
 {
-    let mut noted = BTreeMap::new(alloc);
+    let mut noted = HashMap::new(alloc);
     for set in list {
         let first = note(&mut noted, &set.part)?;
         if !first {
@@ -198,10 +198,10 @@ fn are_of_distinct_parts(alloc: Global, list: &[SetOffset]) -> Result<bool, Allo
 }
 
 // Notes a part, and says whether it is a new one.
-fn note(noted: &mut BTreeMap<PartKey, bool>, part: &PartKey) -> Result<bool, AllocError>
-    ensures new { IfOk result (λ new. new ≡ is_none (get part_order noted.old part.now)) }
-    ensures noted { OnOk result ((q : PartKey) → get part_order noted.new q ≡
-        (if is_at (part_order part.now) q then Some true else get part_order noted.old q)) }
+fn note(noted: &mut HashMap<PartKey, bool>, part: &PartKey) -> Result<bool, AllocError>
+    ensures new { IfOk result (λ new. new ≡ is_none (get part_eq noted.old part.now)) }
+    ensures noted { OnOk result ((q : PartKey) → get part_eq noted.new q ≡
+        (if part_eq part.now q then Some true else get part_eq noted.old q)) }
 {
     let earlier = noted.insert(part.copy()?, true)?;
     Ok(earlier.is_none())

@@ -5,17 +5,17 @@ ghost use Rattle.cw_types.specs.Same.{same_tag};
 ghost use Rattle.cw_txn.specs.Commits.{Rises, has_tag, IsAbove, IsFirstNotBelow};
 ghost use Rattle.std.proofs.Props.{props};
 
-use cw_tables::{has_row, make_row, set_row, take_row, value_at};
+use cw_tables::hashed::{has_row, make_row, set_row, take_row, value_at};
 use cw_types::Tag;
 use std::alloc::{AllocError, Global};
-use std::collections::BTreeMap;
+use std::collections::HashMap;
 
 // The committed transactions. Those whose numbers rise, as they do in the order of their making, stand one behind the
 // other; the others have rows of a map, as have those for which room was made.
 #[derive(Drop)]
 pub struct Commits {
     rising: Vec<Tag>,
-    others: BTreeMap<Tag, bool>,
+    others: HashMap<Tag, bool>,
     ghost rises: { Rises rising.items } by { Prim.hlevel props },
 }
 
@@ -27,7 +27,7 @@ impl Commits {
     {
         Commits {
             rising: Vec::new(alloc),
-            others: BTreeMap::new(alloc),
+            others: HashMap::new(alloc),
         }
     }
 

@@ -11,6 +11,8 @@ mod body;
 mod commits;
 mod coordinator;
 mod entry;
+mod epochs;
+mod parts;
 mod replay;
 mod tables;
 #[cfg(test)]

@@ -1,7 +1,7 @@
 use Rattle.std.proofs.Common.{◌≡◌, take, All}
 use Rattle.cw_types.specs.declared.ids.PartKey.{PartKey}
 use Rattle.cw_txn.specs.declared.entry.SetOffset.{SetOffset}
-use Rattle.cw_txn.specs.Tables.{history_at, HasPart}
+use Rattle.cw_txn.specs.PartRows.{history_at, HasPart}
 use Rattle.cw_txn.proofs.tables.make_set_parts.Given as goal
 
 abbrev pub invariant-loop-set : goal.invariant-loop-set

@@ -1,6 +1,6 @@
 use Rattle.std.proofs.Common.{sym, subst}
 use Rattle.cw_types.specs.declared.ids.Span.{Span}
-use Rattle.cw_txn.specs.Tables.{HasPart}
+use Rattle.cw_txn.specs.PartRows.{HasPart}
 use Rattle.cw_txn.proofs.tables.move_ends.Goals as goal
 
 pub move_end-requires : goal.move_end-requires

@@ -2,7 +2,7 @@ use Rattle.std.proofs.Common.{◌≡◌, take}
 use Rattle.std.specs.List.{fold}
 use Rattle.cw_types.specs.declared.ids.PartKey.{PartKey}
 use Rattle.cw_txn.specs.History.{after_span}
-use Rattle.cw_txn.specs.Tables.{history_at}
+use Rattle.cw_txn.specs.PartRows.{history_at}
 use Rattle.cw_txn.specs.Walk.{IsSpanTest}
 use Rattle.cw_txn.proofs.tables.put_ends.Given as goal
 

@@ -1,6 +1,6 @@
 use Rattle.std.proofs.Common.{sym, subst}
 use Rattle.cw_txn.specs.declared.entry.SetOffset.{SetOffset}
-use Rattle.cw_txn.specs.Tables.{HasPart}
+use Rattle.cw_txn.specs.PartRows.{HasPart}
 use Rattle.cw_txn.proofs.tables.set_histories.Goals as goal
 
 pub set_history-requires : goal.set_history-requires

@@ -1,12 +1,18 @@
-use Rattle.std.proofs.Common.{◌∙◌, List, ◌++◌, ◌∷◌, [], All, sym, subst, ap}
+use Rattle.std.proofs.Common.{◌≡◌, ◌∙◌, ℕ, ◌+◌, Bool, true, ◌&&◌, cond, Some, List, ◌++◌, ◌∷◌, [], All, refl, sym, subst, ap}
 use Rattle.std.specs.List.{fold}
 use Rattle.cw_types.specs.declared.ids.Span.{Span}
 use Rattle.cw_txn.specs.declared.entry.Entry.{Entry}
 use Rattle.cw_txn.specs.declared.entry.SetOffset.{SetOffset}
 use Rattle.cw_txn.specs.History.{after_span}
-use Rattle.cw_txn.specs.Tables.{HasPart, HasRows, Keeps, history_at}
+use Rattle.cw_txn.specs.PartRows.{HasPart, history_at}
+use Rattle.cw_txn.specs.Tables.{HasRows, Keeps}
 use Rattle.cw_txn.proofs.Kept.{keeps_bump, keeps_commit}
-use Rattle.cw_txn.proofs.MovedRows.{raised_there}
+use Rattle.cw_tables.proofs.RowLemmas.{value-moved}
+use Rattle.cw_types.specs.declared.ids.Tid.{Tid}
+use Rattle.cw_types.specs.Same.{same_tid}
+use Rattle.cw_types.proofs.SameLemmas.{same_tid-flip, same_tid-Decides}
+use Rattle.cw_txn.specs.declared.epochs.Epochs.{Epochs}
+use Rattle.cw_txn.specs.EpochRows.{epoch_row, epoch_at}
 use Rattle.cw_txn.proofs.tables.Tables.add.Goals as goal
 
 pub move_ends-requires : goal.move_ends-requires
@@ -21,10 +27,15 @@ set_histories-requires c =
 
 pub returns-in-Bump-clause-kept : goal.returns-in-Bump-clause-kept
 returns-in-Bump-clause-kept c entries kept =
+    let old : Epochs = c.args.self.now.epochs in
+    let tid : Tid = c.in-Bump.tid in
     let row = subst (λ (e : Entry). HasRows c.args.self.now e) c.in-Bump.is c.requires.rows in
-    subst (λ (e : Entry). Keeps (record { epochs = c.raise_row.new.epochs; committed = c.args.self.now.committed; parts = c.args.self.now.parts }) (entries ++ e ∷ [])) (sym c.in-Bump.is)
-    (keeps_bump c.args.self.now entries kept c.raise_row.new.epochs c.in-Bump.tid
-    (raised_there c.args.self.now.epochs c.raise_row.new.epochs c.in-Bump.tid c.raise_row.result c.raise_row.ensures.there c.raise_row.ensures.raised (c.raise_row.ensures.there ∙ row)))
+    let there : c.raise.result ≡ true = c.raise.ensures.there ∙ row in
+    let set : (q : Tid) → epoch_row c.raise.new.self q ≡ cond (same_tid tid q) (Some (epoch_at old tid + 1)) (epoch_row old q) =
+    λ q. c.raise.ensures.raised q ∙ ap (λ (b : Bool). cond (b && same_tid tid q) (Some (epoch_at old tid + 1)) (epoch_row old q)) there in
+    subst (λ (e : Entry). Keeps (record { epochs = c.raise.new.self; committed = c.args.self.now.committed; parts = c.args.self.now.parts }) (entries ++ e ∷ [])) (sym c.in-Bump.is)
+    (keeps_bump c.args.self.now entries kept c.raise.new.self tid
+    (value-moved epoch_row same_tid same_tid (λ a b. refl) same_tid-flip same_tid-Decides 0 old c.raise.new.self tid (epoch_at old tid + 1) set (λ (n : ℕ). n + 1) refl))
 
 pub returns-in-Commit-clause-kept : goal.returns-in-Commit-clause-kept
 returns-in-Commit-clause-kept c entries kept =

@@ -6,7 +6,8 @@ use Rattle.cw_txn.specs.declared.entry.Entry.{Entry}
 use Rattle.cw_txn.specs.History.{after_span}
 use Rattle.cw_types.specs.Same.{same_tag}
 use Rattle.cw_txn.specs.Committed.{committed_at}
-use Rattle.cw_txn.specs.Tables.{Keeps, history_at}
+use Rattle.cw_txn.specs.PartRows.{history_at}
+use Rattle.cw_txn.specs.Tables.{Keeps}
 use Rattle.cw_txn.specs.Walk.{IsChainTest, IsSpanTest}
 use Rattle.cw_txn.proofs.Kept.{keeps_commit}
 use Rattle.cw_txn.proofs.SpanTests.{chain_test}
@@ -14,8 +15,8 @@ use Rattle.cw_txn.proofs.tables.Tables.put.Goals as goal
 
 pub returns-in_ok-chains-in-Commit-clause-kept : goal.returns-in_ok-chains-in-Commit-clause-kept
 returns-in_ok-chains-in-Commit-clause-kept c entries kept =
-    subst (λ (e : Entry). Keeps (record { epochs = c.args.self.now.epochs; committed = c.put.new.self; parts = c.put_ends.new.parts }) (entries ++ e ∷ [])) (sym c.in-Commit.is)
-    (keeps_commit c.args.self.now entries kept c.put.new.self c.put_ends.new.parts c.in-Commit.tag c.in-Commit.generation c.in-Commit.spans
+    subst (λ (e : Entry). Keeps (record { epochs = c.args.self.now.epochs; committed = c.put-in-Commit.new.self; parts = c.put_ends.new.parts }) (entries ++ e ∷ [])) (sym c.in-Commit.is)
+    (keeps_commit c.args.self.now entries kept c.put-in-Commit.new.self c.put_ends.new.parts c.in-Commit.tag c.in-Commit.generation c.in-Commit.spans
     (λ q. c.in_ok-put-in-Commit.ensures q ∙ ap (λ (t : Tag). cond (same_tag q t) true (committed_at c.args.self.now.committed q)) c.in_ok-copy-in-Commit.ensures)
     (λ part. c.in_ok-chains-in-Commit.ensures.moved part ∙ ap (λ (l : List Span). fold (after_span part) (history_at c.args.self.now.parts part) l) c.as_slice.ensures))
 

@@ -1,0 +1,197 @@
+//! The table of what is committed of each part.
+ghost use Rattle.std.specs.Prelude.{◌≡◌, ◌↔◌, ◌&&◌, ℕ, nat_eq, IfOk, OnOk, IsSome, IsTrue, Some, None, is_some, unwrap_or, if◌then◌else◌};
+ghost use Rattle.std.specs.HashMap.{get};
+ghost use Rattle.cw_types.specs.declared.ids.PartKey.{PartKey};
+ghost use Rattle.cw_types.specs.Same.{same_part, part_eq};
+ghost use Rattle.cw_txn.specs.History.{unset, after_span, GoesOn};
+
+use cw_tables::hashed::{has_row, make_row, set_row, value_at};
+use cw_types::{PartKey, Span};
+use std::alloc::{AllocError, Global};
+use std::collections::HashMap;
+use std::hash::Hash;
+
+/// What is committed of a part.
+#[derive(Clone, Copy, Debug, PartialEq, Eq, Drop)]
+pub struct History {
+    /// Where its offsets begin.
+    pub base: u64,
+    /// Where its last commit ended, if there is one.
+    pub end: Option<u64>,
+}
+
+impl History {
+    pub const UNSET: History = History { base: 0, end: None };
+
+    // Whether a span begins where this part ends, at 0 where it has no end, and isn't empty.
+    pub fn goes_on(self, span: &Span) -> bool
+        ensures { IsTrue result ↔ GoesOn self span.now }
+    {
+        span.from == self.end.unwrap_or(0) && span.from < span.to
+    }
+}
+
+// The history of each part. Those of scripts are found by their numbers alone, which keeps their rows small.
+#[derive(Drop)]
+pub struct Parts {
+    pub numbered: HashMap<u32, History>,
+    pub named: HashMap<PartKey, History>,
+}
+
+impl Parts {
+    ghost use Rattle.cw_txn.specs.PartRows.{part_row, history_at, HasPart};
+
+    pub fn new(alloc: Global) -> Parts
+        ensures { (q : PartKey) → part_row result q ≡ None }
+    {
+        Parts {
+            numbered: HashMap::new(alloc),
+            named: HashMap::new(alloc),
+        }
+    }
+
+    pub fn history(&self, part: &PartKey) -> History
+        ensures { result ≡ history_at self.now part.now }
+    {
+        match part {
+            PartKey::Raw(number) => value_at(&self.numbered, number, History::UNSET),
+            PartKey::File { .. } => value_at(&self.named, part, History::UNSET),
+            PartKey::Seq { .. } => value_at(&self.named, part, History::UNSET),
+            PartKey::Sink { .. } => value_at(&self.named, part, History::UNSET),
+        }
+    }
+
+    // A row for a part. The table reads as before.
+    pub fn make(&mut self, part: &PartKey) -> Result<(), AllocError>
+        ensures same { (q : PartKey) → history_at self.new q ≡ history_at self.old q }
+        ensures kept { (q : PartKey) → HasPart self.old q → HasPart self.new q }
+        ensures there { OnOk result (HasPart self.new part.now) }
+    {
+        match part {
+            PartKey::Raw(number) => make_numbered(&mut self.numbered, *number),
+            PartKey::File { .. } => make_named(&mut self.named, part),
+            PartKey::Seq { .. } => make_named(&mut self.named, part),
+            PartKey::Sink { .. } => make_named(&mut self.named, part),
+        }
+    }
+
+    // Sets the history of a part that has a row.
+    pub fn set(&mut self, part: &PartKey, history: History)
+        requires { HasPart self.old part.now }
+        ensures { (q : PartKey) → part_row self.new q ≡ (if same_part part.now q then Some history else part_row self.old q) }
+    {
+        match part {
+            PartKey::Raw(number) => set_row(&mut self.numbered, number, history),
+            PartKey::File { .. } => set_row(&mut self.named, part, history),
+            PartKey::Seq { .. } => set_row(&mut self.named, part, history),
+            PartKey::Sink { .. } => set_row(&mut self.named, part, history),
+        }
+    }
+
+    // Moves the end of a part that has a row to its span's, and gives what the row was.
+    pub fn move_end(&mut self, span: &Span) -> Option<History>
+        ensures before { result ≡ part_row self.old span.now.part }
+        ensures moved { (q : PartKey) → part_row self.new q ≡ (if is_some result && same_part span.now.part q then Some (record { base = (history_at self.old span.now.part).base; end = Some span.now.to }) else part_row self.old q) }
+    {
+        match &span.part {
+            PartKey::Raw(number) => move_row(&mut self.numbered, number, span),
+            PartKey::File { .. } => move_row(&mut self.named, &span.part, span),
+            PartKey::Seq { .. } => move_row(&mut self.named, &span.part, span),
+            PartKey::Sink { .. } => move_row(&mut self.named, &span.part, span),
+        }
+    }
+
+    // The end of a part moves to its span's, in its row or in a new one; it says whether the span goes on from where it was.
+    pub fn put_end(&mut self, span: &Span) -> Result<bool, AllocError>
+        ensures moved { OnOk result ((part : PartKey) → history_at self.new part ≡ after_span part (history_at self.old part) span.now) }
+        ensures goes_on { IfOk result (λ goes_on. IsTrue goes_on ↔ GoesOn (history_at self.old span.now.part) span.now) }
+    {
+        match self.move_end(span) {
+            Some(before) => Ok(before.goes_on(span)),
+            None => {
+                self.begin(span)?;
+                Ok(History::UNSET.goes_on(span))
+            }
+        }
+    }
+
+    // The first end of a part, in a new row or in its own.
+    fn begin(&mut self, span: &Span) -> Result<(), AllocError>
+        ensures { OnOk result ((q : PartKey) → part_row self.new q ≡ (if same_part span.now.part q then Some (record { base = 0; end = Some span.now.to }) else part_row self.old q)) }
+    {
+        match &span.part {
+            PartKey::Raw(number) => begin_numbered(&mut self.numbered, *number, span),
+            PartKey::File { .. } => begin_named(&mut self.named, span),
+            PartKey::Seq { .. } => begin_named(&mut self.named, span),
+            PartKey::Sink { .. } => begin_named(&mut self.named, span),
+        }
+    }
+}
+
+fn make_numbered(rows: &mut HashMap<u32, History>, number: u32) -> Result<(), AllocError>
+    ensures same { (q : ℕ) → unwrap_or (get nat_eq rows.new q) unset ≡ unwrap_or (get nat_eq rows.old q) unset }
+    ensures kept { (q : ℕ) → IsSome (get nat_eq rows.old q) → IsSome (get nat_eq rows.new q) }
+    ensures there { OnOk result (IsSome (get nat_eq rows.new number)) }
+{
+    if has_row(rows, &number) {
+        return Ok(());
+    }
+    make_row(rows, number, History::UNSET)
+}
+
+fn make_named(rows: &mut HashMap<PartKey, History>, part: &PartKey) -> Result<(), AllocError>
+    ensures same { (q : PartKey) → unwrap_or (get part_eq rows.new q) unset ≡ unwrap_or (get part_eq rows.old q) unset }
+    ensures kept { (q : PartKey) → IsSome (get part_eq rows.old q) → IsSome (get part_eq rows.new q) }
+    ensures there { OnOk result (IsSome (get part_eq rows.new part.now)) }
+{
+    if has_row(rows, part) {
+        return Ok(());
+    }
+    make_row(rows, part.copy()?, History::UNSET)
+}
+
+fn move_row<K: Eq + Hash>(
+    rows: &mut HashMap<K, History>,
+    key: &K,
+    span: &Span,
+) -> Option<History>
+    ensures before { result ≡ get K.eq rows.old key.now }
+    ensures moved { (q : K) → get K.eq rows.new q ≡ (if is_some result && K.eq key.now q then Some (record { base = (unwrap_or (get K.eq rows.old key.now) unset).base; end = Some span.now.to }) else get K.eq rows.old q) }
+{
+    match rows.get_mut(key) {
+        Some(row) => {
+            let before = *row;
+            *row = ended(before, span);
+            Some(before)
+        }
+        None => None,
+    }
+}
+
+fn begin_numbered(
+    rows: &mut HashMap<u32, History>,
+    number: u32,
+    span: &Span,
+) -> Result<(), AllocError>
+    ensures { OnOk result ((q : ℕ) → get nat_eq rows.new q ≡ (if nat_eq number q then Some (record { base = 0; end = Some span.now.to }) else get nat_eq rows.old q)) }
+{
+    rows.insert(number, ended(History::UNSET, span))?;
+    Ok(())
+}
+
+fn begin_named(rows: &mut HashMap<PartKey, History>, span: &Span) -> Result<(), AllocError>
+    ensures { OnOk result ((q : PartKey) → get part_eq rows.new q ≡ (if part_eq span.now.part q then Some (record { base = 0; end = Some span.now.to }) else get part_eq rows.old q)) }
+{
+    rows.insert(span.part.copy()?, ended(History::UNSET, span))?;
+    Ok(())
+}
+
+// A part's history with its end at a span's.
+fn ended(history: History, span: &Span) -> History
+    ensures { result ≡ record { base = history.base; end = Some span.now.to } }
+{
+    History {
+        base: history.base,
+        end: Some(span.to),
+    }
+}
