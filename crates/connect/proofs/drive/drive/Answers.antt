@@ -1,7 +1,10 @@
 use Rattle.std.proofs.Common.{◌≡◌, is_some, List, ℕ, sym, ap, ◌∙◌, subst}
+use Rattle.cw_disk.specs.Disk.{Adds}
 use Rattle.cw_types.specs.Faults.{Rose}
 use Rattle.connect.specs.Outcomes.{Drives, Stand, StandEither}
 use Rattle.connect.specs.Players.{PlayerState, IsTold, IsAt, LeavesEither}
+use Rattle.connect.specs.Run.{behind_lines}
+use Rattle.connect.specs.Sessions.{IsBehind}
 use Rattle.connect.specs.Store.{Store, Kept, store_of}
 use Rattle.connect.proofs.TopLemmas.{drives_left, rests}
 use Rattle.connect.proofs.drive.drive.Goals as goal
@@ -24,3 +27,11 @@ returns-clause-drives g c = λ bytes is.
     store (subst (λ (k : Kept g.row.D.Denot). IsAt k store) (sym end) at) told))
     (λ a b either told. subst (λ d. StandEither (g.D.Disk.may_leave d) a b) (sym disk) (either told))
     (c.drive_session-status.ensures.drives bytes is))
+
+pub returns-clause-moments : goal.returns-clause-moments
+returns-clause-moments g c = λ bytes is told.
+    let start : c.new-session.result.player.kept ≡ c.args.transactions = ap (λ (p : PlayerState g.row.D.Denot). p.kept) c.new-session.ensures.player in
+    let disk : c.give_back-2.result ≡ c.drive_session-status.new.session.player.kept.log.disk = c.give_back-2.ensures.disk ∙ ap (λ (k : Kept g.row.D.Denot). k.log.disk) c.give_back.ensures in
+    subst (λ (d : g.row.D.Denot). Adds g.D.Disk.moment g.D.Disk.left_since c.args.transactions.log.disk d (IsBehind (λ n. behind_lines n bytes (store_of c.args.transactions)))) (sym disk)
+    (subst (λ (k : Kept g.row.D.Denot). Adds g.D.Disk.moment g.D.Disk.left_since k.log.disk c.drive_session-status.new.session.player.kept.log.disk (IsBehind (λ n. behind_lines n bytes (store_of k)))) start
+    (c.drive_session-status.ensures.moments bytes is (subst (λ (k : Kept g.row.D.Denot). IsTold k) (sym start) told)))
