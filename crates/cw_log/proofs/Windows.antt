@@ -5,10 +5,7 @@ use Rattle.std.proofs.lemmas.Nat.{be_bytes_4}
 use Rattle.std.specs.Int.{w32, to_be_bytes, from_be_bytes}
 use Rattle.cw_log.specs.declared.place.Frame.TheVariants.{Open}
 use Rattle.cw_log.specs.Log.{IsFrame}
-use Rattle.cw_log.specs.Calls.{Shows, IsWindow, IsAhead}
-use Rattle.cw_log.specs.declared.window.Window.{Window}
-use Rattle.std.specs.Prelude.{Result, Ok, Err, IfOk, Option, Some}
-use Rattle.std.specs.declared.alloc.AllocError.{AllocError}
+use Rattle.cw_log.specs.Calls.{Shows}
 
 pub shows_within : (five file bytes : List ℕ) (start at filled : ℕ) → length five ≡ 5 → start ≤ at → at - start + 5 ≤ filled → filled ≤ length bytes → take filled bytes ≡ take filled (drop start file)
     → Shows five (drop (at - start) (take filled bytes)) → Shows five (drop at file)
@@ -31,11 +28,6 @@ part_within file bytes start from at size filled place within same =
     let there : drop from (drop start file) ≡ drop at file = drop-drop from start file ∙ ap (λ (n : ℕ). drop n file) (omega arith) in
     let part : drop from (take filled bytes) ≡ take m (drop at file) = ap (drop from) (same ∙ ap (λ (n : ℕ). take n (drop start file)) (omega arith)) ∙ drop-take from m (drop start file) ∙ ap (take m) there in
     ap (take size) part ∙ take-take size m (drop at file) (omega arith)
-
--- a new window shows whatever file
-pub new_window : (made : Result Window AllocError) (told : Option (List ℕ)) → IfOk made (λ window. (file : List ℕ) → IsWindow file window) → IfOk made (λ window. window.filled ≤ length window.bytes.items) → IfOk made (λ window. IsAhead told (Some window))
-new_window (Ok window) told shows within = (λ file is. shows file, within)
-new_window (Err fault) told shows within = within
 
 -- five bytes over bytes of which there is one at least
 shown : (five bytes : List ℕ) → length five ≡ 5 → 5 ≤ length bytes → Shows five bytes → (first : ℕ) × (rest : List ℕ) × (bytes ≡ first ∷ rest) × (first ≡ get_or five 0 0) × (take 4 rest ≡ drop 1 five)

@@ -7,7 +7,6 @@ ghost use Rattle.cw_log.specs.State.{OnReadFault};
 
 use crate::ReadFault;
 use cw_disk::{Disk, Failed, Memory};
-use std::alloc::Global;
 
 // From an `Ok` on a stop leaves what a read gives.
 pub(crate) fn flush<D: Disk>(disk: &mut D) -> Result<(), Failed>
@@ -37,22 +36,21 @@ pub(crate) fn read<D: Disk>(disk: &mut D, at: u64, into: &mut [u8]) -> Result<us
     disk.read_at(at, into)
 }
 
-// The bytes at a place, so many of them, or fewer where the disk ends.
+// Reads so many bytes from a place on, or fewer where the disk ends, in the place of what `into` held.
 pub(crate) fn read_part<D: Disk>(
-    alloc: Global,
     disk: &mut D,
     at: u64,
     size: usize,
-) -> Result<Vec<u8>, ReadFault>
-    ensures bytes { IfOk result (λ bytes. (file : List ℕ) → D.holds disk.old ≡ Some file → at + size ≤ length file → bytes.items ≡ take size (drop at file)) }
+    into: &mut Vec<u8>,
+) -> Result<(), ReadFault>
+    ensures bytes { OnOk result ((file : List ℕ) → D.holds disk.old ≡ Some file → at + size ≤ length file → into.new.items ≡ take size (drop at file)) }
     ensures reads { Reads D.holds D.may_leave D.moment D.left_since D.count D.reserved disk.old disk.new }
     ensures cause { IfErr result (OnReadFault (Rose (D.count disk.old) (D.count disk.new)) (Unit {0})) }
 {
-    let mut bytes = Vec::new(alloc);
-    bytes.resize(size, 0)?;
-    let n = read(disk, at, bytes.as_mut_slice())?;
-    bytes.truncate(n);
-    Ok(bytes)
+    into.resize(size, 0)?;
+    let n = read(disk, at, into.as_mut_slice())?;
+    into.truncate(n);
+    Ok(())
 }
 
 // Takes the memory of writes up to this length.

@@ -9,6 +9,7 @@ use cw_disk::{Disk, Failed};
 use std::alloc::Global;
 
 // The frame that five bytes show, where so many are left in the file.
+#[inline]
 fn frame_of(five: &[u8], left: u64) -> Frame
     requires five { length five.now ≡ 5 }
     requires some { 0 < left }
@@ -29,6 +30,7 @@ fn frame_of(five: &[u8], left: u64) -> Frame
 }
 
 // The frame at a place of a file of this size.
+#[inline]
 fn frame_at<D: Disk>(disk: &mut D, window: &mut Window, at: u64, size: u64) -> Result<Frame, Failed>
     requires size { (file : List ℕ) → D.holds disk.old ≡ Some file → size ≡ length file }
     requires window { (file : List ℕ) → D.holds disk.old ≡ Some file → IsWindow file window.old }

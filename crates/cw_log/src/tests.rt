@@ -198,15 +198,36 @@ fn bodies_are_read_behind_an_append_too(rt: HostRuntime) -> Result<(), Fail> {
     holds_just(&rt, &mut log, &ALL[..3])
 }
 
+// A log with the bodies `xy`, `z`, this long one of 70,000 bytes and `ab`.
+fn log_around(alloc: Global, long: &[u8]) -> Result<TopicLog<MemDisk>, Fail> {
+    let mut bytes = TWO[..TWO.len() - 1].to_vec(alloc)?;
+    bytes.extend_from_slice(b"\x01\0\x01\x11\x70")?;
+    bytes.extend_from_slice(long)?;
+    bytes.extend_from_slice(b"\x01\0\0\0\x02ab\0")?;
+    let disk = disk_of(alloc, &bytes, u64::MAX)?;
+    Ok(TopicLog::open_log(alloc, disk, LogName::Txn, 1000).map_err(|fault| fault.cause)?)
+}
+
 #[test]
 fn a_long_body_is_read_between_short_ones(rt: HostRuntime) -> Result<(), Fail> {
     let alloc = rt.alloc();
     let long = vec![in alloc; 7u8; 70_000]?;
-    let mut bytes = TWO[..TWO.len() - 1].to_vec(alloc)?;
-    bytes.extend_from_slice(b"\x01\0\x01\x11\x70")?;
-    bytes.extend_from_slice(&long)?;
-    bytes.extend_from_slice(b"\x01\0\0\0\x02ab\0")?;
-    let disk = disk_of(alloc, &bytes, u64::MAX)?;
-    let mut log = TopicLog::open_log(alloc, disk, LogName::Txn, 1000).map_err(|fault| fault.cause)?;
+    let mut log = log_around(alloc, &long)?;
     holds_just(&rt, &mut log, &[b"xy", b"z", &long, b"ab"])
+}
+
+#[test]
+fn a_buffer_holds_the_body_that_was_read_last(rt: HostRuntime) -> Result<(), Fail> {
+    let alloc = rt.alloc();
+    let long = vec![in alloc; 7u8; 70_000]?;
+    let mut log = log_around(alloc, &long)?;
+    let mut body = b"what was there".to_vec(alloc)?;
+    let expected: [(u64, &[u8]); 4] = [(0, b"xy"), (1, b"z"), (2, &long), (3, b"ab")];
+    for (index, bytes) in expected {
+        if index < log.count() {
+            log.read_body_into(index, &mut body)?;
+            assert_eq!(rt; body.as_slice(), bytes);
+        }
+    }
+    Ok(())
 }

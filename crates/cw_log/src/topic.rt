@@ -9,7 +9,7 @@ ghost use Rattle.cw_log.specs.State.{LogState, OnAppendFault, OnReadFault, Opens
 use crate::calls::prepare;
 use crate::frame::{push_place, write_frame};
 use crate::open::opened;
-use crate::window::window_of;
+use crate::window::read_ahead;
 use crate::{AppendFault, OpenFault, Place, ReadFault, Window};
 use cw_disk::{Disk, Failed, Memory};
 use cw_types::LogName;
@@ -169,6 +169,7 @@ impl<D: Disk> TopicLog<D> {
     }
 
     /// How many bodies there are.
+    #[inline]
     pub fn count(&self) -> u64
         ensures count { result ≡ self.now.count }
         ensures list { (bodies : List (List ℕ)) → self.now.bodies ≡ Some bodies → result ≡ length bodies }
@@ -177,6 +178,7 @@ impl<D: Disk> TopicLog<D> {
     }
 
     /// How many bytes there are, up to and with the closed gate.
+    #[inline]
     pub fn length(&self) -> u64
         ensures length { result ≡ self.now.length }
         ensures list { (bodies : List (List ℕ)) → self.now.bodies ≡ Some bodies → result ≡ length_of bodies }
@@ -195,17 +197,34 @@ impl<D: Disk> TopicLog<D> {
         ensures same { HasSameList self.old self.new }
         ensures reads { Reads D.holds D.may_leave D.moment D.left_since D.count D.reserved self.old.disk self.new.disk }
     {
+        let mut body = Vec::new(self.alloc);
+        self.read_body_into(index, &mut body)?;
+        Ok(body)
+    }
+
+    /// Reads the body of this number, which is below the count, into `body`, in the place of what that
+    /// held. Behind an `Err` what `body` holds is open.
+    #[inline]
+    pub fn read_body_into(&mut self, index: u64, body: &mut Vec<u8>) -> Result<(), ReadFault>
+        requires { index < self.old.count }
+        ensures body { OnOk result ((bodies : List (List ℕ)) → self.old.bodies ≡ Some bodies → body.new.items ≡ slice_index_or bodies index []) }
+        ensures fault { IfErr result (OnReadFault
+            (Rose (D.count self.old.disk) (D.count self.new.disk) × (self.new.failed ≡ Some (0, D.count self.new.disk)))
+            (self.new.failed ≡ self.old.failed)) }
+        ensures ok { OnOk result (self.new.failed ≡ self.old.failed) }
+        ensures same { HasSameList self.old self.new }
+        ensures reads { Reads D.holds D.may_leave D.moment D.left_since D.count D.reserved self.old.disk self.new.disk }
+    {
         let place = self.places[index as usize];
-        let mut window = window_of(self.alloc, self.ahead.take())?;
-        let read = window.part(
+        match read_ahead(
             self.alloc,
+            &mut self.ahead,
             &mut self.disk,
             place.at.saturating_add(5),
             place.length as usize,
-        );
-        self.ahead = Some(window);
-        match read {
-            Ok(body) => Ok(body),
+            body,
+        ) {
+            Ok(()) => Ok(()),
             Err(ReadFault::Memory) => Err(ReadFault::Memory),
             Err(ReadFault::Failed) => {
                 self.failed = Some(self.disk.faults());

@@ -37,6 +37,7 @@ impl Window {
     }
 
     // Whether so many bytes from `at` on are in it.
+    #[inline]
     fn has(&self, at: u64, count: usize) -> bool
         ensures { result ≡ true → (self.now.start ≤ at) × (at - self.now.start + count ≤ self.now.filled) }
     {
@@ -62,6 +63,7 @@ impl Window {
     }
 
     // The five bytes from `at` on, as far as there are so many.
+    #[inline]
     pub(crate) fn peek<D: Disk>(&mut self, disk: &mut D, at: u64) -> Result<[u8; 5], Failed>
         requires window { (file : List ℕ) → D.holds disk.old ≡ Some file → IsWindow file self.old }
         requires within { self.old.filled ≤ length self.old.bytes.items }
@@ -78,30 +80,34 @@ impl Window {
         Ok(five_of(&self.bytes[..self.filled], 0))
     }
 
-    // So many bytes from `at` on, or fewer where the disk ends. A part that is longer than the window is read by itself.
-    pub(crate) fn part<D: Disk>(
+    // Reads so many bytes from `at` on, or fewer where the disk ends, in the place of what `into` held. A
+    // part that is longer than the window is read by itself.
+    #[inline]
+    fn part<D: Disk>(
         &mut self,
-        alloc: Global,
         disk: &mut D,
         at: u64,
         size: usize,
-    ) -> Result<Vec<u8>, ReadFault>
+        into: &mut Vec<u8>,
+    ) -> Result<(), ReadFault>
         requires window { (file : List ℕ) → D.holds disk.old ≡ Some file → IsWindow file self.old }
         requires within { self.old.filled ≤ length self.old.bytes.items }
         ensures window { (file : List ℕ) → D.holds disk.old ≡ Some file → IsWindow file self.new }
         ensures within { self.new.filled ≤ length self.new.bytes.items }
-        ensures bytes { IfOk result (λ bytes. (file : List ℕ) → D.holds disk.old ≡ Some file → at + size ≤ length file → bytes.items ≡ take size (drop at file)) }
+        ensures bytes { OnOk result ((file : List ℕ) → D.holds disk.old ≡ Some file → at + size ≤ length file → into.new.items ≡ take size (drop at file)) }
         ensures reads { Reads D.holds D.may_leave D.moment D.left_since D.count D.reserved disk.old disk.new }
         ensures cause { IfErr result (OnReadFault (Rose (D.count disk.old) (D.count disk.new)) (Unit {0})) }
     {
         if size > self.bytes.len() {
-            return read_part(alloc, disk, at, size);
+            return read_part(disk, at, size, into);
         }
         let from = self.place_of(disk, at, size)?;
-        Ok(part_of(&self.bytes[..self.filled], from, size).to_vec(alloc)?)
+        copy_into(into, part_of(&self.bytes[..self.filled], from, size))?;
+        Ok(())
     }
 
     // Where the bytes from `at` on lie in it. It is filled from there on where so many bytes are not in it.
+    #[inline]
     fn place_of<D: Disk>(&mut self, disk: &mut D, at: u64, count: usize) -> Result<usize, Failed>
         requires window { (file : List ℕ) → D.holds disk.old ≡ Some file → IsWindow file self.old }
         requires within { self.old.filled ≤ length self.old.bytes.items }
@@ -121,17 +127,36 @@ impl Window {
     }
 }
 
-// The window that is there, or a new one.
-pub(crate) fn window_of(alloc: Global, ahead: Option<Window>) -> Result<Window, AllocError>
-    ensures { (told : Option (List ℕ)) → IsAhead told ahead → IfOk result (λ window. IsAhead told (Some window)) }
+// Reads so many bytes from `at` on, or fewer where the disk ends, in the place of what `into` held: by
+// the window that is there, or else by a new one.
+#[inline]
+pub(crate) fn read_ahead<D: Disk>(
+    alloc: Global,
+    ahead: &mut Option<Window>,
+    disk: &mut D,
+    at: u64,
+    size: usize,
+    into: &mut Vec<u8>,
+) -> Result<(), ReadFault>
+    requires { IsAhead (D.holds disk.old) ahead.old }
+    ensures ahead { IsAhead (D.holds disk.old) ahead.new }
+    ensures bytes { OnOk result ((file : List ℕ) → D.holds disk.old ≡ Some file → at + size ≤ length file → into.new.items ≡ take size (drop at file)) }
+    ensures reads { Reads D.holds D.may_leave D.moment D.left_since D.count D.reserved disk.old disk.new }
+    ensures cause { IfErr result (OnReadFault (Rose (D.count disk.old) (D.count disk.new)) (Unit {0})) }
 {
     match ahead {
-        Some(window) => Ok(window),
-        None => Window::new(alloc),
+        Some(window) => window.part(disk, at, size, into),
+        None => {
+            let mut window = Window::new(alloc)?;
+            let read = window.part(disk, at, size, into);
+            *ahead = Some(window);
+            read
+        }
     }
 }
 
 // So many bytes from a place on, or fewer where there are not so many.
+#[inline]
 fn part_of(bytes: &[u8], from: usize, size: usize) -> &[u8]
     requires { from ≤ length bytes.now }
     ensures { result.now ≡ take size (drop from bytes.now) }
@@ -140,15 +165,28 @@ fn part_of(bytes: &[u8], from: usize, size: usize) -> &[u8]
     &rest[..size.min(rest.len())]
 }
 
+// Copies these bytes into `into`, in the place of what that held.
+#[inline]
+fn copy_into(into: &mut Vec<u8>, bytes: &[u8]) -> Result<(), AllocError>
+    ensures { OnOk result (into.new.items ≡ bytes.now) }
+{
+    into.clear();
+    into.extend_from_slice(bytes)
+}
+
 // Up to five bytes from a place on, and 0 behind them.
+#[inline]
 fn five_of(bytes: &[u8], from: usize) -> [u8; 5]
     requires { from ≤ length bytes.now }
     ensures shows { Shows result (drop from bytes.now) }
     ensures size { length result ≡ 5 }
 {
     let rest = &bytes[from..];
-    let n = rest.len().min(5);
     let mut five = [0; 5];
-    five[..n].copy_from_slice(&rest[..n]);
+    if rest.len() >= 5 {
+        five.copy_from_slice(&rest[..5]);
+        return five;
+    }
+    five[..rest.len()].copy_from_slice(rest);
     five
 }

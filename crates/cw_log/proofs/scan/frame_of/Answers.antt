@@ -4,5 +4,5 @@ use Rattle.cw_log.proofs.scan.frame_of.Goals as goal
 
 pub returns-clause-frame : goal.returns-clause-frame
 returns-clause-frame c bytes long shows =
-    open_frame c.args.five.now bytes c.from_be_bytes-length.result c.requires.five (λ i. omega (arith, c.type_inv.five i)) shows (omega (arith, c.if-five-eq0.false)) c.from_be_bytes-length.ensures
-    (omega (arith, c.if-length-eq0.false)) c.from_be_bytes-length.type_inv (omega (arith, c.if-left-length.false, c.if-left-lt5.false, long))
+    open_frame c.args.five.now bytes c.from_be_bytes-length.result c.requires.five (λ i. omega (arith, c.type_inv.five i)) shows (omega arith) c.from_be_bytes-length.ensures
+    (omega arith) c.from_be_bytes-length.type_inv (omega arith)
