@@ -14,7 +14,7 @@ use Rattle.cw_types.proofs.Lists.{cut_at}
 use Rattle.connect.specs.declared.opening.Reading.{Reading}
 use Rattle.connect.specs.Store.{Hold}
 use Rattle.connect.specs.Harms.{gate_behind, IsReadable, HasUnreadable, IsGateOf, HasNotAllowed, HasUnchained, HasBodyHarm}
-use Rattle.connect.specs.Reading.{gates_from, TakesBody, HasRead, HasEntryHarm}
+use Rattle.connect.specs.Reading.{gates_from, TakesFrame, HasRead, HasEntryHarm}
 
 -- all entries of some groups
 abbrev pub entries_in : List (List Entry) → List Entry
@@ -57,14 +57,14 @@ module _ (bodies : List (List ℕ)) (index : ℕ) (within : index < length bodie
   fits = omega (arith, length_of-push (take index bodies) body, ap length_of next, length_of-append (take (index + 1) bodies) (drop (index + 1) bodies), length_of_least (drop (index + 1) bodies), ap length_of (take-append-drop (index + 1) bodies))
 
   -- one body more
-  pub read_more : (old new : Reading) → HasRead (take index bodies) old → TakesBody body old new → HasRead (take (index + 1) bodies) new
+  pub read_more : (old new : Reading) → HasRead (take index bodies) old → TakesFrame body old new → HasRead (take (index + 1) bodies) new
   read_more old new has takes = record {
-    groups = has.groups ++ takes.group ∷ [];
-    each = recursion_from_All AreEntries (has.groups ++ takes.group ∷ []) (All-push AreEntries has.groups takes.group (All-from_recursion AreEntries has.groups has.each) takes.are);
-    bodies_are = next ∙ ap (λ (l : List (List ℕ)). l ++ body ∷ []) has.bodies_are ∙ ap (λ (b : List ℕ). map entries_bytes has.groups ++ b ∷ []) takes.spelled ∙ sym (map-append entries_bytes has.groups (takes.group ∷ []));
-    entries_are = takes.entries ∙ ap (λ (l : List Entry). l ++ takes.group) has.entries_are ∙ sym (entries_in-push has.groups takes.group);
-    gates_are = takes.gates ∙ ap (λ (l : List ℕ). l ++ replicate (length takes.group) old.at) has.gates_are
-        ∙ sym (gates_from-push 16 old.at has.groups takes.group (omega (arith, has.at, ap length_of has.bodies_are, length_of_least (take index bodies))));
+    groups = has.groups ++ takes.taken.group ∷ [];
+    each = recursion_from_All AreEntries (has.groups ++ takes.taken.group ∷ []) (All-push AreEntries has.groups takes.taken.group (All-from_recursion AreEntries has.groups has.each) takes.taken.are);
+    bodies_are = next ∙ ap (λ (l : List (List ℕ)). l ++ body ∷ []) has.bodies_are ∙ ap (λ (b : List ℕ). map entries_bytes has.groups ++ b ∷ []) takes.taken.spelled ∙ sym (map-append entries_bytes has.groups (takes.taken.group ∷ []));
+    entries_are = takes.taken.entries ∙ ap (λ (l : List Entry). l ++ takes.taken.group) has.entries_are ∙ sym (entries_in-push has.groups takes.taken.group);
+    gates_are = takes.taken.gates ∙ ap (λ (l : List ℕ). l ++ replicate (length takes.taken.group) old.at) has.gates_are
+        ∙ sym (gates_from-push 16 old.at has.groups takes.taken.group (omega (arith, has.at, ap length_of has.bodies_are, length_of_least (take index bodies))));
     at = omega (arith, takes.at, has.at, fits, small, length_of_least (take index bodies), ap length_of next, length_of-push (take index bodies) body);
   }
 
@@ -135,10 +135,10 @@ spot front (group ∷ groups) k within = ⊎_elim (here front group groups k)
     (λ past. later front group groups k past (spot (front ++ group ∷ []) groups (k - length group) (omega (arith, length-cons group groups, within, past)))) (cases_lt k (length group))
 
 module _ (bodies : List (List ℕ)) (reading : Reading) (has : HasRead bodies reading) where
-  pub hold : Hold bodies reading.entries.items
+  pub hold : Hold bodies reading.replay.entries
   hold = record { groups = has.groups; each = has.each; bodies_are = has.bodies_are; entries_are = has.entries_are }
 
-  gate_of : (place at : ℕ) → place < length reading.entries.items → slice_index_or reading.gates.items place at ≡ at → IsGateOf bodies reading.entries.items place at
+  gate_of : (place at : ℕ) → place < length reading.replay.entries → slice_index_or reading.replay.gates place at ≡ at → IsGateOf bodies reading.replay.entries place at
   gate_of place at within is =
       let s = spot [] has.groups place (omega (arith, within, ap length has.entries_are)) in
       record {
@@ -153,13 +153,13 @@ module _ (bodies : List (List ℕ)) (reading : Reading) (has : HasRead bodies re
         gate = sym is ∙ ap (λ (l : List ℕ). get_or l place at) has.gates_are ∙ s.gate at;
       }
 
-  within_split : (before : List Entry) (entry : Entry) (behind : List Entry) (place : ℕ) → reading.entries.items ≡ before ++ entry ∷ behind → length before ≡ place → place < length reading.entries.items
+  within_split : (before : List Entry) (entry : Entry) (behind : List Entry) (place : ℕ) → reading.replay.entries ≡ before ++ entry ∷ behind → length before ≡ place → place < length reading.replay.entries
   within_split before entry behind place split at = omega (arith, ap length split, length-append before (entry ∷ behind), at)
 
   -- a harm of the entries is one of the bodies
-  pub body_harm : (at : ℕ) (harm : Harm) → HasEntryHarm reading.entries.items reading.gates.items at harm → HasBodyHarm bodies at harm
-  body_harm at Content h = inr (record { entries = reading.entries.items; place = h.0; gate = gate_of h.0 at (within_split h.1.before h.1.entry h.1.behind h.0 h.1.split h.1.at) h.2; first = h.1 })
-  body_harm at Unsafe h = record { entries = reading.entries.items; place = h.0; gate = gate_of h.0 at (within_split h.2.before h.2.entry h.2.behind h.0 h.2.split h.2.at) h.3; allowed = h.1; first = h.2 }
+  pub body_harm : (at : ℕ) (harm : Harm) → HasEntryHarm reading.replay.entries reading.replay.gates at harm → HasBodyHarm bodies at harm
+  body_harm at Content h = inr (record { entries = reading.replay.entries; place = h.0; gate = gate_of h.0 at (within_split h.1.before h.1.entry h.1.behind h.0 h.1.split h.1.at) h.2; first = h.1 })
+  body_harm at Unsafe h = record { entries = reading.replay.entries; place = h.0; gate = gate_of h.0 at (within_split h.2.before h.2.entry h.2.behind h.0 h.2.split h.2.at) h.3; allowed = h.1; first = h.2 }
   body_harm at Magic h = h
   body_harm at Version h = h
   body_harm at Kind h = h
@@ -168,7 +168,7 @@ module _ (bodies : List (List ℕ)) (reading : Reading) (has : HasRead bodies re
   body_harm at Length h = h
 
 -- nothing is read of no body
-pub read_none : (reading : Reading) → reading.entries.items ≡ [] → reading.gates.items ≡ [] → reading.at ≡ 16 → HasRead [] reading
+pub read_none : (reading : Reading) → reading.replay.entries ≡ [] → reading.replay.gates ≡ [] → reading.at ≡ 16 → HasRead [] reading
 read_none reading entries gates at = record { groups = []; each = tt; bodies_are = refl; entries_are = entries; gates_are = gates; at = at }
 
 -- the first body that is none of entries is a harm of the bodies

@@ -10,7 +10,7 @@ use Rattle.connect.specs.declared.opening.Reading.{Reading}
 use Rattle.connect.specs.declared.opening.OpeningCause.{OpeningCause}
 use Rattle.connect.specs.declared.opening.OpeningCause.TheVariants as causes
 use Rattle.connect.specs.Harms.{OnOpeningCause}
-use Rattle.connect.specs.Reading.{TakesBody, IsAligned, IsCauseOf}
+use Rattle.connect.specs.Reading.{IsCauseOf}
 
 pub OnCause-weaker : (damaged hurt : ℕ → Harm → Type 0) (failed broke memory want : Type 0) → ((at : ℕ) (harm : Harm) → damaged at harm → hurt at harm) → (failed → broke) → (memory → want)
     → (cause : OpenCause) → OnCause damaged failed memory cause → OnCause hurt broke want cause
@@ -42,15 +42,3 @@ module _ {D : Type 0} where
     shut = second.shut ∙ first.shut;
     ready = second.ready ∙ first.ready;
   }
-
--- one body more, and each entry still has a gate
-pub aligned_more : (body : List ℕ) (old new : Reading) → TakesBody body old new → IsAligned old → IsAligned new
-aligned_more body old new takes aligned = omega (
-  arith,
-  aligned,
-  ap length takes.entries,
-  ap length takes.gates,
-  length-append old.entries.items takes.group,
-  length-append old.gates.items (replicate (length takes.group) old.at),
-  length-replicate (length takes.group) old.at,
-)

@@ -5,6 +5,7 @@ use Rattle.cw_log.specs.declared.fault.Harm.{Harm}
 use Rattle.cw_log.specs.declared.fault.Harm.TheVariants.{Magic, Version, Kind, Header, SameSide, Length, Content, Unsafe}
 use Rattle.cw_txn.specs.declared.entry.Entry.{Entry}
 use Rattle.cw_txn.specs.Body.{AreEntries, entries_bytes}
+use Rattle.cw_txn.specs.Replayed.{TakesBody}
 use Rattle.cw_txn.specs.Allowed.{AreAllowed, IsFirstNotAllowed, IsFirstUnchained}
 use Rattle.cw_log.specs.declared.fault.OpenCause.{OpenCause}
 use Rattle.cw_log.specs.declared.fault.OpenCause.TheVariants as open_causes
@@ -18,13 +19,9 @@ abbrev pub gates_from : ℕ → List (List Entry) → List ℕ
 gates_from at [] = []
 gates_from at (group ∷ groups) = replicate (length group) at ++ gates_from (at + (length (entries_bytes group) + 5)) groups
 
--- one body more
-pub record TakesBody (body : List ℕ) (old new : Reading) : Type 0 where
-  pub group : List Entry
-  pub are : AreEntries group
-  pub spelled : body ≡ entries_bytes group
-  pub entries : new.entries.items ≡ old.entries.items ++ group
-  pub gates : new.gates.items ≡ old.gates.items ++ replicate (length group) old.at
+-- the body of one frame more
+pub record TakesFrame (body : List ℕ) (old new : Reading) : Type 0 where
+  pub taken : TakesBody body old.at old.replay new.replay
   pub at : new.at ≡ min (old.at + (length body + 5)) (2 ^ 64 - 1)
 
 -- the entries and gates of these bodies, and the gate behind them
@@ -32,13 +29,9 @@ pub record HasRead (bodies : List (List ℕ)) (reading : Reading) : Type 0 where
   pub groups : List (List Entry)
   pub each : AllByRecursion AreEntries groups
   pub bodies_are : bodies ≡ map entries_bytes groups
-  pub entries_are : reading.entries.items ≡ flat_map (λ group. group) groups
-  pub gates_are : reading.gates.items ≡ gates_from 16 groups
+  pub entries_are : reading.replay.entries ≡ flat_map (λ group. group) groups
+  pub gates_are : reading.replay.gates ≡ gates_from 16 groups
   pub at : reading.at ≡ gate_behind bodies
-
--- each entry has a gate
-abbrev pub IsAligned : Reading → Type 0
-IsAligned reading = length reading.gates.items ≡ length reading.entries.items
 
 -- the harm of these entries, whose gates are these
 abbrev pub HasEntryHarm : List Entry → List ℕ → ℕ → Harm → Type 0

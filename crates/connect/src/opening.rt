@@ -8,13 +8,13 @@ ghost use Rattle.cw_log.specs.Log.{OnCause, StandsFor, StandAlike, length_of};
 ghost use Rattle.cw_log.specs.State.{HasSameList};
 ghost use Rattle.connect.specs.Store.{Store, Hold, IsImage, IsSafe, store_of};
 ghost use Rattle.connect.specs.Harms.{IsHarmed, IsReadable, HasUnreadable, HasBodyHarm, HoldsAlike, OnOpeningCause};
-ghost use Rattle.cw_txn.specs.Body.{AreEntries, entries_bytes};
-ghost use Rattle.connect.specs.Reading.{IsCauseOf, TakesBody, HasRead, IsAligned, HasEntryHarm};
+ghost use Rattle.cw_txn.specs.Replayed.{TakesBody};
+ghost use Rattle.connect.specs.Reading.{IsCauseOf, TakesFrame, HasRead, HasEntryHarm};
 
 use crate::transactions::{MOST_LOG, Transactions};
 use cw_disk::Disk;
 use cw_log::{Harm, OpenCause, ReadFault, TopicLog};
-use cw_txn::{BodyFault, Coordinator, Entry, ListFault, read_entries};
+use cw_txn::{BodyFault, Coordinator, ListFault, Replay};
 use cw_types::LogName;
 use std::alloc::Global;
 
@@ -43,11 +43,10 @@ pub(crate) struct OpeningFault<D> {
     pub(crate) cause: OpeningCause,
 }
 
-// What was read of a log: the entries, the place of the gate of each one's frame, and the gate behind them.
+// What was read of a log: the entries, each with the place of its frame's gate, and the gate behind them.
 #[derive(Drop)]
 pub(crate) struct Reading {
-    pub(crate) entries: Vec<Entry>,
-    pub(crate) gates: Vec<u64>,
+    pub(crate) replay: Replay,
     pub(crate) at: u64,
 }
 
@@ -120,7 +119,7 @@ fn coordinator_of<D: Disk>(alloc: Global, log: &mut TopicLog<D>) -> Result<Coord
 {
     let size = log.length();
     let reading = read_bodies(alloc, log, size)?;
-    let coordinator = coordinator_of_entries(alloc, reading)?;
+    let coordinator = coordinator_of_entries(reading.replay)?;
     Ok(coordinator)
 }
 
@@ -132,7 +131,6 @@ fn read_bodies<D: Disk>(
 ) -> Result<Reading, OpenCause>
     requires size { (bodies : List (List ℕ)) → log.old.bodies ≡ Some bodies → size ≡ length_of bodies }
     ensures list { IfOk result (λ reading. (bodies : List (List ℕ)) → log.old.bodies ≡ Some bodies → HasRead bodies reading) }
-    ensures aligned { IfOk result IsAligned }
     ensures fault { IfErr result (OnCause
         (λ at harm. (bodies : List (List ℕ)) → log.old.bodies ≡ Some bodies → (harm ≡ Harm.Content) × HasUnreadable bodies at)
         (Rose (D.count log.old.disk) (D.count log.new.disk)) ⊤) }
@@ -141,55 +139,56 @@ fn read_bodies<D: Disk>(
     ensures reads { Reads D.holds D.may_leave D.moment D.left_since D.count D.reserved log.old.disk log.new.disk }
 {
     let mut reading = Reading {
-        entries: Vec::new(alloc),
-        gates: Vec::new(alloc),
+        replay: Replay::new(alloc),
         at: 16,
     };
+    let mut body = Vec::new(alloc);
     for index in 0..log.count() {
-        let body = body_of(log, index)?;
-        take_body(alloc, &mut reading, body.as_slice())?;
+        read_body(log, index, &mut body)?;
+        take_body(&mut reading, body.as_slice())?;
     }
     Ok(reading)
 }
 
-// The body of this number.
-fn body_of<D: Disk>(log: &mut TopicLog<D>, index: u64) -> Result<Vec<u8>, OpenCause>
+// Reads the body of this number in the place of what `body` held.
+fn read_body<D: Disk>(
+    log: &mut TopicLog<D>,
+    index: u64,
+    body: &mut Vec<u8>,
+) -> Result<(), OpenCause>
     requires { index < log.old.count }
-    ensures body { IfOk result (λ body. (bodies : List (List ℕ)) → log.old.bodies ≡ Some bodies → body.items ≡ slice_index_or bodies index []) }
+    ensures body { OnOk result ((bodies : List (List ℕ)) → log.old.bodies ≡ Some bodies → body.new.items ≡ slice_index_or bodies index []) }
     ensures fault { IfErr result (OnCause (λ at harm. ⊥) (Rose (D.count log.old.disk) (D.count log.new.disk)) ⊤) }
     ensures same { HasSameList log.old log.new }
     ensures failed { OnOk result (log.new.failed ≡ log.old.failed) }
     ensures reads { Reads D.holds D.may_leave D.moment D.left_since D.count D.reserved log.old.disk log.new.disk }
 {
-    match log.read_body(index) {
-        Ok(body) => Ok(body),
+    match log.read_body_into(index, body) {
+        Ok(()) => Ok(()),
         Err(ReadFault::Failed) => Err(OpenCause::Failed),
         Err(ReadFault::Memory) => Err(OpenCause::Memory),
     }
 }
 
-// Reads the entries of one body more.
-fn take_body(alloc: Global, reading: &mut Reading, body: &[u8]) -> Result<(), OpenCause>
-    ensures ok { OnOk result (TakesBody body.now reading.old reading.new) }
+// Takes the entries of one body more.
+fn take_body(reading: &mut Reading, body: &[u8]) -> Result<(), OpenCause>
+    ensures ok { OnOk result (TakesFrame body.now reading.old reading.new) }
     ensures fault { IfErr result (OnCause (λ at harm. (at ≡ reading.old.at) × (harm ≡ Harm.Content) × (¬ IsReadable body.now)) ⊥ ⊤) }
 {
-    let mut group = entries_of(alloc, body, reading.at)?;
-    let count = reading.gates.len() + group.len();
-    reading.gates.resize(count, reading.at)?;
-    reading.entries.append(&mut group)?;
+    take_entries(&mut reading.replay, body, reading.at)?;
     reading.at = reading
         .at
         .saturating_add((body.len() as u64).saturating_add(5));
     Ok(())
 }
 
-// The entries of a body whose gate is at this place.
-fn entries_of(alloc: Global, body: &[u8], at: u64) -> Result<Vec<Entry>, OpenCause>
-    ensures found { IfOk result (λ entries. AreEntries entries.items × (body.now ≡ entries_bytes entries.items)) }
+// Takes the entries of a body whose frame has its gate at this place.
+fn take_entries(replay: &mut Replay, body: &[u8], at: u64) -> Result<(), OpenCause>
+    ensures taken { OnOk result (TakesBody body.now at replay.old replay.new) }
     ensures fault { IfErr result (OnCause (λ place harm. (place ≡ at) × (harm ≡ Harm.Content) × (¬ IsReadable body.now)) ⊥ ⊤) }
 {
-    match read_entries(alloc, body) {
-        Ok(entries) => Ok(entries),
+    match replay.take_body(body, at) {
+        Ok(()) => Ok(()),
         Err(BodyFault::NotEntries) => Err(OpenCause::Damaged {
             at,
             harm: Harm::Content,
@@ -199,24 +198,21 @@ fn entries_of(alloc: Global, body: &[u8], at: u64) -> Result<Vec<Entry>, OpenCau
 }
 
 // The coordinator of the entries that were read.
-fn coordinator_of_entries(alloc: Global, reading: Reading) -> Result<Coordinator, OpenCause>
-    requires { IsAligned reading }
-    ensures entries { IfOk result (λ c. c.entries ≡ reading.entries.items) }
-    ensures safe { OnOk result (IsSafe reading.entries.items) }
-    ensures fault { IfErr result (OnCause (HasEntryHarm reading.entries.items reading.gates.items) ⊥ ⊤) }
+fn coordinator_of_entries(replay: Replay) -> Result<Coordinator, OpenCause>
+    ensures entries { IfOk result (λ c. c.entries ≡ replay.entries) }
+    ensures safe { OnOk result (IsSafe replay.entries) }
+    ensures fault { IfErr result (OnCause (HasEntryHarm replay.entries replay.gates) ⊥ ⊥) }
 {
-    let Reading { entries, gates, .. } = reading;
-    match Coordinator::of(alloc, entries) {
+    match replay.into_coordinator() {
         Ok(coordinator) => Ok(coordinator),
-        Err(ListFault::NotAllowed(place)) => Err(OpenCause::Damaged {
-            at: gates[place as usize],
+        Err(ListFault::NotAllowed(at)) => Err(OpenCause::Damaged {
+            at,
             harm: Harm::Content,
         }),
-        Err(ListFault::Unchained(place)) => Err(OpenCause::Damaged {
-            at: gates[place as usize],
+        Err(ListFault::Unchained(at)) => Err(OpenCause::Damaged {
+            at,
             harm: Harm::Unsafe,
         }),
-        Err(ListFault::Memory) => Err(OpenCause::Memory),
     }
 }
 

@@ -1,6 +1,6 @@
-//! Tables by ordered keys, in which a missing row reads as a default.
+//! Tables in which a missing row reads as a default: by ordered keys, or by hashes where no order is asked for.
 //!
-//! Its public contract says what a table reads at every key behind each call, in the words of std's ordered map.
+//! Its public contract says what a table reads at every key behind each call, in the words of std's maps.
 //! It stands on std alone.
 #![tactic(auto)]
 

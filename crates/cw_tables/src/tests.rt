@@ -1,7 +1,7 @@
 //! Each call once with ample memory.
 
-use crate::{has_row, make_row, set_row, take_row, value_at};
-use std::collections::BTreeMap;
+use crate::{has_row, hashed, make_row, set_row, take_row, value_at};
+use std::collections::{BTreeMap, HashMap};
 use std::test::Fail;
 
 #[test]
@@ -20,5 +20,23 @@ fn rows_read_as_missing_ones_until_they_are_set(rt: HostRuntime) -> Result<(), F
     assert_eq!(rt; take_row(&mut table, &7), Some(7));
     assert_eq!(rt; take_row(&mut table, &7), None);
     assert_eq!(rt; value_at(&table, &7, 3), 3);
+    Ok(())
+}
+
+#[test]
+fn rows_by_hashes_read_as_missing_ones_until_they_are_set(rt: HostRuntime) -> Result<(), Fail> {
+    let mut table: HashMap<u32, u64> = HashMap::new(rt.alloc());
+    if hashed::has_row(&table, &7) {
+        return Err("a row in an empty table".into());
+    }
+    hashed::make_row(&mut table, 7, 3)?;
+    assert!(rt; hashed::has_row(&table, &7));
+    assert_eq!(rt; hashed::value_at(&table, &7, 3), 3);
+    hashed::set_row(&mut table, &7, 5);
+    assert_eq!(rt; hashed::value_at(&table, &7, 3), 5);
+    assert_eq!(rt; hashed::value_at(&table, &8, 3), 3);
+    assert_eq!(rt; hashed::take_row(&mut table, &7), Some(7));
+    assert_eq!(rt; hashed::take_row(&mut table, &7), None);
+    assert_eq!(rt; hashed::value_at(&table, &7, 3), 3);
     Ok(())
 }
