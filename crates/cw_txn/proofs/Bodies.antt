@@ -26,7 +26,7 @@ use Rattle.cw_txn.specs.declared.entry.Entry.{Entry}
 use Rattle.cw_txn.specs.declared.entry.Entry.TheVariants.{Bump, Commit, Set}
 use Rattle.cw_txn.specs.declared.entry.SetOffset.{SetOffset}
 use Rattle.cw_txn.specs.Body.{offset_bytes, set_bytes, list_bytes, entry_bytes, entries_bytes, IsOffset, IsSet, IsList, IsEntry, AreEntries}
-use Rattle.cw_txn.specs.BodyReading.{some_offset_at, offset_at, set_at, list_at, spans_at, sets_at, bump_at, commit_at, set_entry_at, entry_at, entries_at, ended, body_at}
+use Rattle.cw_txn.specs.BodyReading.{some_offset_at, offset_at, set_at, list_at, spans_at, sets_at, bump_at, commit_at, set_entry_at, entry_at, count_at, entries_at, ended, body_at}
 
 some_takes : (kind from : Unread) (to : Option ℕ) (next : Unread) → Passes (1 ∷ []) kind from → some_offset_at from ≡ Ok (to, next) → Passes (offset_bytes to) kind next × IsOffset to
 unfolding some_offset_at
@@ -177,8 +177,8 @@ entry_again (Commit tag generation spans) is from next takes = kind_again 2 (tag
 entry_again (Set tid epoch list) is from next takes = kind_again 3 (tid_bytes tid ++ numbered set_bytes IsSet (epoch.0, list)) entry_of_kind (Set tid epoch list, next) from next takes
     (λ mid there. both_again tid_at sets_at set_of tid_bytes (numbered set_bytes IsSet) IsTid (AreNumberedList set_bytes IsSet) tid_takes sets_takes tid_again sets_again tid (epoch.0, list) is.0 (is.1, is.2) mid next there)
 
-abbrev counted : ℕ × Unread → Read (List Entry)
-counted n = cond (eqb n.0 0) (Err (BadKind 0)) (many_at entry_at n.0 n.1)
+abbrev counted : ℕ × Unread → Read ℕ
+counted n = cond (eqb n.0 0) (Err (BadKind 0)) (Ok (n.0, n.1))
 
 not_zero : (n : ℕ) → eqb n 0 ≡ false → 1 ≤ n
 not_zero n e = grind (arith, nat_tests)
@@ -186,23 +186,34 @@ not_zero n e = grind (arith, nat_tests)
 is_not_zero : (n : ℕ) → 1 ≤ n → eqb n 0 ≡ false
 is_not_zero n e = grind (arith, nat_tests)
 
+count_takes : (from : Unread) (n : ℕ) (next : Unread) → AreBytes from.rest → count_at from ≡ Ok (n, next) → Passes (word n) from next × (1 ≤ n) × (n < 2 ^ 32)
+unfolding count_at
+count_takes from n next fits e =
+    let b = bind_ok (number_at w32 from) counted (n, next) e in
+    let g = guard_ok (eqb b.0.0 0) (BadKind 0) (done (b.0.0, b.0.1)) (n, next) b.2 in
+    let w = word_takes from b.0.0 b.0.1 fits b.1 in
+    subst (λ (y : ℕ × Unread). Passes (word y.0) from y.1 × (1 ≤ y.0) × (y.0 < 2 ^ 32)) (ok_is (b.0.0, b.0.1) (n, next) g.1) (w.0, not_zero b.0.0 g.0, w.1)
+
+count_again : (n : ℕ) → 1 ≤ n → n < 2 ^ 32 → (from next : Unread) → Takes (word n) from next → count_at from ≡ Ok (n, next)
+unfolding count_at
+count_again n some few from next takes =
+    ap (λ x. x >>= counted) (word_again n few from next takes) ∙ ap (λ (b : Bool). cond b (Err (BadKind 0)) (Ok (n, next))) (is_not_zero n some)
+
 entries_takes : (from : Unread) (entries : List Entry) (next : Unread) → AreBytes from.rest → entries_at from ≡ Ok (entries, next) → Passes (entries_bytes entries) from next × AreEntries entries
 unfolding entries_at
 entries_takes from entries next fits e =
-    let b = bind_ok (number_at w32 from) counted (entries, next) e in
-    let g = guard_ok (eqb b.0.0 0) (BadKind 0) (many_at entry_at b.0.0 b.0.1) (entries, next) b.2 in
-    let n = word_takes from b.0.0 b.0.1 fits b.1 in
-    let m = many_takes entry_at entry_bytes IsEntry entry_takes entry_again b.0.0 b.0.1 entries next n.0.left g.1 in (
+    let b = bind_ok (count_at from) (λ n. many_at entry_at n.0 n.1) (entries, next) e in
+    let n = count_takes from b.0.0 b.0.1 fits b.1 in
+    let m = many_takes entry_at entry_bytes IsEntry entry_takes entry_again b.0.0 b.0.1 entries next n.0.left b.2 in (
       subst (λ (k : ℕ). Passes (word k ++ flat_map entry_bytes entries) from next) (sym m.count) (Passes-then (word b.0.0) (flat_map entry_bytes entries) from b.0.1 next n.0 m.passes),
-      record { some = omega (arith, not_zero b.0.0 g.0, m.count); list = (omega (arith, n.1, m.count), m.each) },
+      record { some = omega (arith, n.1, m.count); list = (omega (arith, n.2, m.count), m.each) },
     )
 
 entries_again : (entries : List Entry) → AreEntries entries → (from next : Unread) → Takes (entries_bytes entries) from next → entries_at from ≡ Ok (entries, next)
 unfolding entries_at
 entries_again entries are from next t =
     let mid = between (word (length entries)) (flat_map entry_bytes entries) from next in
-    ap (λ x. x >>= counted) (word_again (length entries) are.list.0 from mid (Takes-first (word (length entries)) (flat_map entry_bytes entries) from next t))
-    ∙ ap (λ (b : Bool). cond b (Err (BadKind 0)) (many_at entry_at (length entries) mid)) (is_not_zero (length entries) are.some)
+    ap (λ x. x >>= λ (n : ℕ × Unread). many_at entry_at n.0 n.1) (count_again (length entries) are.some are.list.0 from mid (Takes-first (word (length entries)) (flat_map entry_bytes entries) from next t))
     ∙ many_again entry_at entry_bytes IsEntry entry_takes entry_again entries are.list.1 mid next (Takes-second (word (length entries)) (flat_map entry_bytes entries) from next t)
 
 -- ---- a whole body
@@ -238,6 +249,14 @@ none_isnt x e = cc
 
 -- ---- what a call answers
 
+-- a fault that isn't want of memory says that there is no reading
+pub isnt_unreadable : (bytes : List ℕ) (fault : BodyFault) (entries : List Entry) → AreEntries entries → bytes ≡ entries_bytes entries
+    → (fault ≢ BodyMemory → body_at bytes ≡ None) → fault ≡ NotEntries → ⊥
+isnt_unreadable bytes NotEntries entries are is unread e =
+    let there : body_at bytes ≡ Some entries = ap body_at is ∙ body_again entries are in
+    none_isnt entries (sym (unread (λ same. cc)) ∙ there)
+isnt_unreadable bytes BodyMemory entries are is unread e = cc
+
 abbrev Answers : List ℕ → Result (Vec Entry) BodyFault → Type 0
 Answers bytes r = MatchResult r (λ entries. body_at bytes ≡ Some entries.items) (λ fault. fault ≢ BodyMemory → body_at bytes ≡ None)
 
@@ -253,7 +272,4 @@ is_only bytes (Err fault) entries are is answers = tt
 
 pub not_refused : (bytes : List ℕ) (r : Result (Vec Entry) BodyFault) (entries : List Entry) → AreEntries entries → bytes ≡ entries_bytes entries → Answers bytes r → r ≡ Err NotEntries → ⊥
 not_refused bytes (Ok read) entries are is answers e = cc
-not_refused bytes (Err NotEntries) entries are is answers e =
-    let there : body_at bytes ≡ Some entries = ap body_at is ∙ body_again entries are in
-    none_isnt entries (sym (answers (λ same. cc)) ∙ there)
-not_refused bytes (Err BodyMemory) entries are is answers e = cc
+not_refused bytes (Err fault) entries are is answers e = isnt_unreadable bytes fault entries are is answers (cc)

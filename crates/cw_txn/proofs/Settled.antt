@@ -1,5 +1,5 @@
 -- The coordinator's invariant behind its steps.
-use Rattle.std.proofs.Common.{◌≡◌, ℕ, ◌+◌, ◌≤◌, List, [], ◌∷◌, ◌++◌, length, take, drop, slice_index_or, Contains, sym, subst, ◌∙◌, arith, length-append, ⊎_elim}
+use Rattle.std.proofs.Common.{◌≡◌, ℕ, ◌+◌, ◌≤◌, ◌<◌, ◌^◌, List, [], ◌∷◌, ◌++◌, length, take, drop, slice_index_or, Contains, sym, subst, ◌∙◌, arith, length-append, ⊎_elim}
 use Rattle.std.proofs.lemmas.List.{take-append-drop, get_or_default}
 use Rattle.std.proofs.lemmas.List.Elements.{All-weaker, Contains-push_cases, Contains-append_left, Contains-append_right, Contains-append_cases}
 use Rattle.cw_types.specs.declared.ids.PartKey.{PartKey}
@@ -22,10 +22,10 @@ HasRows-kept old new keeps (Commit tag generation spans) has =
 HasRows-kept old new keeps (Set tid epoch list) has =
     All-weaker (λ (set : SetOffset). HasPart old.parts set.part) (λ (set : SetOffset). HasPart new.parts set.part) (λ set. keeps.parts set.part) list has
 
-module _ (tables : Tables) (entries reserved : List Entry) (capacity : ℕ) (was : IsCoordinator tables entries reserved capacity) where
-  -- with more room
-  pub roomier : (now : Tables) (same_entries : List Entry) (more : ℕ) → SameRows tables now → KeepsRows tables now → same_entries ≡ entries → capacity ≤ more → IsCoordinator now same_entries reserved more
-  roomier now same_entries more same keeps is grown = rw is record {
+module _ (tables : Tables) (entries reserved : List Entry) (count : ℕ) (was : IsCoordinator tables entries reserved count) where
+  -- with tables that read as before
+  pub with_rows : (now : Tables) → SameRows tables now → KeepsRows tables now → IsCoordinator now entries reserved count
+  with_rows now same keeps = record {
     legal = was.legal;
     chains = was.chains;
     kept = record {
@@ -34,32 +34,35 @@ module _ (tables : Tables) (entries reserved : List Entry) (capacity : ℕ) (was
       parts = λ q. same.parts q ∙ was.kept.parts q;
     };
     rows = λ entry there. HasRows-kept tables now keeps entry (was.rows entry there);
-    room = omega (arith, was.room, grown);
+    counted = was.counted;
+    few = was.few;
   }
 
   -- with an entry reserved
-  pub reserved_one : (entry : Entry) (more : List Entry) → more ≡ reserved ++ entry ∷ [] → HasRows tables entry → length entries + (length reserved + 1) ≤ capacity → IsCoordinator tables entries more capacity
+  pub reserved_one : (entry : Entry) (more : List Entry) → more ≡ reserved ++ entry ∷ [] → HasRows tables entry → length entries + length reserved < 2 ^ 63 → IsCoordinator tables entries more count
   reserved_one entry more is has room = rw is record {
     legal = was.legal;
     chains = was.chains;
     kept = was.kept;
     rows = λ e there. ⊎_elim (λ old. was.rows e old) (λ (one : entry ≡ e). subst (λ (x : Entry). HasRows tables x) one has) (Contains-push_cases reserved entry e there);
-    room = simp length-append room;
+    counted = was.counted;
+    few = simp length-append (omega (arith, room));
   }
 
   -- with an entry written
   pub settled : (now : Tables) (entry written : Entry) (longer held rest : List Entry) (more : ℕ) → longer ≡ entries ++ entry ∷ [] → Keeps now longer → KeepsRows tables now
       → entries ≡ held → entry ≡ written → IsLegalBehind held written → ((part : PartKey) → ChainsBehind part held written)
-      → ((e : Entry) → Contains rest e → Contains reserved e) → length entries + 1 + length rest ≤ more
+      → ((e : Entry) → Contains rest e → Contains reserved e) → more ≡ count + 1 → length entries + 1 + length rest ≤ 2 ^ 63
       → IsCoordinator now longer rest more
-  settled now entry written longer held rest more is kept keeps same one legal chains fewer room = record {
+  settled now entry written longer held rest more is kept keeps same one legal chains fewer counted room = record {
     legal = subst IsLegal (sym is) (Each-push IsLegalBehind entries entry was.legal
         (subst (λ (e : Entry). IsLegalBehind entries e) (sym one) (subst (λ (l : List Entry). IsLegalBehind l written) (sym same) legal)));
     chains = λ part. subst (Chains part) (sym is) (Each-push (ChainsBehind part) entries entry (was.chains part)
         (subst (λ (e : Entry). ChainsBehind part entries e) (sym one) (subst (λ (l : List Entry). ChainsBehind part l written) (sym same) (chains part))));
     kept = kept;
     rows = λ e there. HasRows-kept tables now keeps e (was.rows e (fewer e there));
-    room = rw is (simp length-append room);
+    counted = rw is (simp length-append (omega (arith, was.counted, counted)));
+    few = rw is (simp length-append room);
   }
 
 -- what is taken from the first place of an entry is that entry

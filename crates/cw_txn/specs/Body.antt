@@ -3,6 +3,10 @@ use Rattle.std.specs.Prelude.{ℕ, ◌<◌, ◌≤◌, ◌^◌, List, [], ◌∷
 use Rattle.std.specs.Bool.{⊤}
 use Rattle.std.specs.List.{flat_map, AllByRecursion}
 use Rattle.cw_bytes.specs.Spelling.{word, long, tid_bytes, tag_bytes, part_bytes, span_bytes, IsTid, IsTag, IsPart, IsSpan}
+use Rattle.cw_bytes.specs.declared.fault.FieldFault.{FieldFault}
+use Rattle.cw_bytes.specs.declared.fault.FieldFault.TheVariants.{Short, BadKind, BadName, Memory as FieldMemory}
+use Rattle.cw_txn.specs.declared.body.BodyFault.{BodyFault}
+use Rattle.cw_txn.specs.declared.body.BodyFault.TheVariants.{NotEntries, Memory}
 use Rattle.cw_txn.specs.declared.entry.Entry.{Entry}
 use Rattle.cw_txn.specs.declared.entry.Entry.TheVariants.{Bump, Commit, Set}
 use Rattle.cw_txn.specs.declared.entry.SetOffset.{SetOffset}
@@ -61,3 +65,10 @@ pub record AreShort (entries : List Entry) : Type 0 where
   pub some : 1 ≤ length entries
   pub few : length entries < 2 ^ 32
   pub each : AllByRecursion IsShort entries
+
+-- what a field's fault says of the body: any but want of memory says that it isn't the bytes of entries
+abbrev pub body_fault : FieldFault → BodyFault
+body_fault (Short at) = NotEntries
+body_fault (BadKind byte) = NotEntries
+body_fault (BadName at) = NotEntries
+body_fault FieldMemory = Memory

@@ -65,11 +65,17 @@ entry_at from = do
   kind ← byte_at from
   if kind.0 == 1 then bump_at kind.1 else if kind.0 == 2 then commit_at kind.1 else if kind.0 == 3 then set_entry_at kind.1 else Err (BadKind kind.0)
 
--- the entries, which are some
+-- how many entries, which are some
+unfoldable pub count_at : Unread → Read ℕ
+count_at from = do
+  n ← number_at w32 from
+  if n.0 == 0 then Err (BadKind 0) else Ok (n.0, n.1)
+
+-- the entries
 unfoldable pub entries_at : Unread → Read (List Entry)
 entries_at from = do
-  n ← number_at w32 from
-  if n.0 == 0 then Err (BadKind 0) else many_at entry_at n.0 n.1
+  n ← count_at from
+  many_at entry_at n.0 n.1
 
 -- a body ends with its last field
 abbrev pub ended : Read (List Entry) → Option (List Entry)

@@ -7,6 +7,7 @@ pub mod Transactions
 pub mod Commits
 pub mod Committed
 pub mod Tables
-pub mod Walk
 pub mod Body
 pub mod BodyReading
+pub mod Replayed
+pub mod Walk

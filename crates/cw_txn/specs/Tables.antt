@@ -1,5 +1,5 @@
 -- What the coordinator's tables keep of its list, so that no look-up walks it. Internal: no public contract cites this.
-use Rattle.std.specs.Prelude.{◌≡◌, ℕ, ◌+◌, ◌≤◌, Bool, false, List, length, Contains, [], ◌∷◌, ◌&&◌, is_some, IsSome, All, if◌then◌else◌, slice_index_or, take, ◌<◌}
+use Rattle.std.specs.Prelude.{◌≡◌, ℕ, ◌+◌, ◌≤◌, Bool, false, List, length, Contains, [], ◌∷◌, ◌&&◌, is_some, IsSome, All, if◌then◌else◌, slice_index_or, take, ◌<◌, ◌^◌}
 use Rattle.std.specs.Str.{bytes_eq}
 use Rattle.cw_types.specs.declared.ids.Tid.{Tid}
 use Rattle.cw_types.specs.declared.ids.Tag.{Tag}
@@ -65,10 +65,11 @@ pub record IsFirstAt (entry : Entry) (entries : List Entry) (at : ℕ) : Type 0 
   pub there : slice_index_or entries at entry ≡ entry
   pub first : ¬ Contains (take at entries) entry
 
--- what every coordinator keeps: its list is legal and its parts chain, its tables are those of its list, and room is there for what is reserved
-pub record IsCoordinator (tables : Tables) (entries reserved : List Entry) (capacity : ℕ) : Type 0 where
+-- what every coordinator keeps: its list is legal and its parts chain, its tables and its length are those of its list, and room is there for what is reserved
+pub record IsCoordinator (tables : Tables) (entries reserved : List Entry) (count : ℕ) : Type 0 where
   pub legal : IsLegal entries
   pub chains : (part : PartKey) → Chains part entries
   pub kept : Keeps tables entries
   pub rows : (entry : Entry) → Contains reserved entry → HasRows tables entry
-  pub room : length entries + length reserved ≤ capacity
+  pub counted : count ≡ length entries
+  pub few : length entries + length reserved ≤ 2 ^ 63

@@ -1,5 +1,5 @@
 -- What one walk over a list of entries finds. Internal but for what the faults of a list say.
-use Rattle.std.specs.Prelude.{◌≡◌, ℕ, Bool, true, false, List, Option, Some, None, is_some}
+use Rattle.std.specs.Prelude.{◌≡◌, ◌≤◌, ◌^◌, ◌++◌, ℕ, Bool, true, false, List, length, replicate, Option, Some, None, is_some, slice_index_or}
 use Rattle.std.specs.HashMap.{HashMap, get}
 use Rattle.std.specs.List.{list_any}
 use Rattle.cw_types.specs.declared.ids.PartKey.{PartKey}
@@ -9,24 +9,28 @@ use Rattle.cw_txn.specs.declared.entry.SetOffset.{SetOffset}
 use Rattle.cw_txn.specs.declared.parts.Parts.{Parts}
 use Rattle.cw_txn.specs.declared.tables.Tables.{Tables}
 use Rattle.cw_txn.specs.declared.replay.ListFault.{ListFault}
-use Rattle.cw_txn.specs.declared.replay.ListFault.TheVariants.{NotAllowed, Unchained, Memory}
+use Rattle.cw_txn.specs.declared.replay.ListFault.TheVariants.{NotAllowed, Unchained}
+use Rattle.cw_txn.specs.declared.replay.Walk.{Walk}
 use Rattle.cw_types.specs.Same.{same_part, part_eq}
 use Rattle.cw_txn.specs.History.{SpansChain}
 use Rattle.cw_txn.specs.Legal.{Chains, ChainsBehind}
-use Rattle.cw_txn.specs.Allowed.{AreAllowed, IsFirstUnchained}
+use Rattle.cw_txn.specs.Allowed.{AreAllowed, IsFirstNotAllowed, IsFirstUnchained}
 use Rattle.cw_txn.specs.Tables.{Keeps}
 use Rattle.cw_txn.specs.PartRows.{history_at}
 
--- what each fault of a list says
-abbrev pub OnListFault : (not_allowed unchained : ℕ → Type 0) → (memory : Type 0) → ListFault → Type 0
-OnListFault not_allowed unchained memory (NotAllowed place) = not_allowed place
-OnListFault not_allowed unchained memory (Unchained place) = unchained place
-OnListFault not_allowed unchained memory Memory = memory
+-- what each fault of a list says, by the gate of an entry
+abbrev pub OnListFault : (not_allowed unchained : ℕ → Type 0) → ListFault → Type 0
+OnListFault not_allowed unchained (NotAllowed gate) = not_allowed gate
+OnListFault not_allowed unchained (Unchained gate) = unchained gate
 
--- every part chains, or this is the first place where one doesn't
-abbrev pub ChainsUpTo : List Entry → Option ℕ → Type 0
-ChainsUpTo entries None = (part : PartKey) → Chains part entries
-ChainsUpTo entries (Some place) = IsFirstUnchained entries place
+-- the gate of the entry at a place of which this holds
+abbrev pub HasGate : (ℕ → Type 0) → List ℕ → ℕ → Type 0
+HasGate P gates gate = (place : ℕ) × P place × (slice_index_or gates place gate ≡ gate)
+
+-- every part chains, or this is the gate of the first entry at which one doesn't
+abbrev pub ChainsUpTo : List Entry → List ℕ → Option ℕ → Type 0
+ChainsUpTo entries gates None = (part : PartKey) → Chains part entries
+ChainsUpTo entries gates (Some gate) = HasGate (IsFirstUnchained entries) gates gate
 
 -- whether every part chains at an entry, or one doesn't
 abbrev pub IsChainTest : List Entry → Entry → Bool → Type 0
@@ -38,11 +42,29 @@ abbrev pub IsSpanTest : Parts → List Span → Bool → Type 0
 IsSpanTest parts spans true = (part : PartKey) → SpansChain part (history_at parts part) spans
 IsSpanTest parts spans false = (part : PartKey) × (¬ SpansChain part (history_at parts part) spans)
 
--- these entries are allowed, the tables are theirs, and this is the first that doesn't chain
-pub record Walked (tables : Tables) (entries : List Entry) (unchained : Option ℕ) : Type 0 where
+-- these entries are allowed, the tables are theirs, and this is the gate of the first that doesn't chain
+pub record AreWalked (tables : Tables) (entries : List Entry) (gates : List ℕ) (unchained : Option ℕ) : Type 0 where
   pub allowed : AreAllowed entries
   pub kept : Keeps tables entries
-  pub chained : ChainsUpTo entries unchained
+  pub chained : ChainsUpTo entries gates unchained
+
+-- the same, or this is the gate of the first that isn't allowed; then the tables say nothing any more
+abbrev pub Found : Option ℕ → Tables → List Entry → List ℕ → Option ℕ → Type 0
+Found None tables entries gates unchained = AreWalked tables entries gates unchained
+Found (Some gate) tables entries gates unchained = HasGate (IsFirstNotAllowed entries) gates gate
+
+-- a walk knows how many entries it has taken, and what it found in them
+pub record Walked (walk : Walk) : Type 0 where
+  pub counted : walk.length ≡ length walk.entries.items
+  pub few : walk.length ≤ 2 ^ 63
+  pub aligned : length walk.gates.items ≡ length walk.entries.items
+  pub found : Found walk.not_allowed walk.tables walk.entries.items walk.gates.items walk.unchained
+
+-- a walk took these entries more, of a frame with this gate
+pub record Took (group : List Entry) (gate : ℕ) (old new : Walk) : Type 0 where
+  pub entries : new.entries.items ≡ old.entries.items ++ group
+  pub gates : new.gates.items ≡ old.gates.items ++ replicate (length group) gate
+  pub walked : Walked new
 
 -- the table has a row for the parts of these offsets, and no other
 abbrev pub AreNoted : {S : Type 0} → HashMap PartKey Bool S → List SetOffset → Type 0

@@ -5,7 +5,7 @@ ghost use Rattle.cw_txn.specs.declared.entry.Entry.{Entry};
 ghost use Rattle.cw_txn.specs.declared.body.BodyFault.{BodyFault};
 ghost use Rattle.cw_txn.specs.Body.{entries_bytes, entry_bytes, set_bytes, list_bytes, IsEntry, IsSet, IsList, AreEntries, AreShort, IsShort};
 ghost use Rattle.cw_bytes.specs.Spelling.{span_bytes, IsSpan};
-ghost use Rattle.cw_txn.specs.BodyReading.{some_offset_at, offset_at, set_at, list_at, spans_at, sets_at, bump_at, commit_at, set_entry_at, entry_at, entries_at, body_at};
+ghost use Rattle.cw_txn.specs.BodyReading.{some_offset_at, offset_at, set_at, list_at, spans_at, sets_at, bump_at, commit_at, set_entry_at, entry_at, count_at, entries_at, body_at};
 
 use crate::entry::{Entry, SetOffset};
 use cw_bytes::{
@@ -25,6 +25,22 @@ pub enum BodyFault {
     NotEntries,
     /// Want of memory.
     Memory,
+}
+
+impl From<FieldFault> for BodyFault {
+    ghost use Rattle.std.specs.Prelude.{◌≡◌};
+    ghost use Rattle.cw_txn.specs.Body.{body_fault};
+
+    ghost from_gives = { λ field fault. fault ≡ body_fault field };
+
+    fn from(fault: FieldFault) -> Self {
+        match fault {
+            FieldFault::Memory => BodyFault::Memory,
+            FieldFault::Short(_) => BodyFault::NotEntries,
+            FieldFault::BadKind(_) => BodyFault::NotEntries,
+            FieldFault::BadName(_) => BodyFault::NotEntries,
+        }
+    }
 }
 
 #[tactic(auto, unfolding(crate::specs::BodyReading::some_offset_at))]
@@ -151,7 +167,7 @@ fn read_set_entry(alloc: Global, from: &mut Reader<'_>) -> Result<Entry, FieldFa
 }
 
 #[tactic(auto, unfolding(crate::specs::BodyReading::entry_at))]
-fn read_entry(alloc: Global, from: &mut Reader<'_>) -> Result<Entry, FieldFault>
+pub fn read_entry(alloc: Global, from: &mut Reader<'_>) -> Result<Entry, FieldFault>
     ensures { Gives (λ entry. (entry, from.new)) result (entry_at from.old) }
 {
     let kind = from.take_u8()?;
@@ -163,14 +179,23 @@ fn read_entry(alloc: Global, from: &mut Reader<'_>) -> Result<Entry, FieldFault>
     }
 }
 
-#[tactic(auto, unfolding(crate::specs::BodyReading::entries_at))]
-fn read_all(alloc: Global, from: &mut Reader<'_>) -> Result<Vec<Entry>, FieldFault>
-    ensures { Gives (λ entries. (entries.items, from.new)) result (entries_at from.old) }
+// How many entries a body has, which are some.
+#[tactic(auto, unfolding(crate::specs::BodyReading::count_at))]
+pub fn read_count(from: &mut Reader<'_>) -> Result<u32, FieldFault>
+    ensures { Gives (λ count. (count, from.new)) result (count_at from.old) }
 {
     let count = from.take_u32()?;
     if count == 0 {
         return Err(FieldFault::BadKind(0));
     }
+    Ok(count)
+}
+
+#[tactic(auto, unfolding(crate::specs::BodyReading::entries_at))]
+fn read_all(alloc: Global, from: &mut Reader<'_>) -> Result<Vec<Entry>, FieldFault>
+    ensures { Gives (λ entries. (entries.items, from.new)) result (entries_at from.old) }
+{
+    let count = read_count(from)?;
     read_many_entries(alloc, count, from)
 }
 
@@ -179,19 +204,11 @@ fn read_body(alloc: Global, body: &[u8]) -> Result<Vec<Entry>, BodyFault>
     ensures { MatchResult result (λ entries. body_at body.now ≡ Some entries.items) (λ fault. fault ≢ BodyFault.Memory → body_at body.now ≡ None) }
 {
     let mut from = Reader::new(body);
-    match read_all(alloc, &mut from) {
-        Ok(entries) => {
-            if from.is_empty() {
-                Ok(entries)
-            } else {
-                Err(BodyFault::NotEntries)
-            }
-        }
-        Err(FieldFault::Memory) => Err(BodyFault::Memory),
-        Err(FieldFault::Short(_)) => Err(BodyFault::NotEntries),
-        Err(FieldFault::BadKind(_)) => Err(BodyFault::NotEntries),
-        Err(FieldFault::BadName(_)) => Err(BodyFault::NotEntries),
+    let entries = read_all(alloc, &mut from)?;
+    if !from.is_empty() {
+        return Err(BodyFault::NotEntries);
     }
+    Ok(entries)
 }
 
 /// Reads the entries of a body. NotEntries comes exactly where it isn't the bytes of any entries.

@@ -1,5 +1,5 @@
 //! The transaction coordinator.
-ghost use Rattle.std.specs.Prelude.{◌≡◌, ◌≢◌, ◌≤◌, ◌<◌, ◌+◌, ℕ, [], ◌∷◌, ◌++◌, List, length, map, Contains, All, IfOk, OnOk, OnErr, IsOk, IfErr, ⊤, IsTrue, ◌↔◌, false, vec_len, vec_capacity, MatchOption, slice_get, Some, unwrap_or};
+ghost use Rattle.std.specs.Prelude.{◌≡◌, ◌≢◌, ◌≤◌, ◌<◌, ◌+◌, ℕ, [], ◌∷◌, ◌++◌, List, length, map, Contains, All, IfOk, OnOk, OnErr, IsOk, IfErr, ⊤, IsTrue, ◌↔◌, false, MatchOption, slice_get, Some, unwrap_or, ◌^◌};
 ghost use Rattle.std.specs.List.{IsDistinct, list_any};
 ghost use Rattle.cw_types.specs.declared.ids.PartKey.{PartKey};
 ghost use Rattle.cw_types.specs.declared.ids.Tid.{Tid};
@@ -7,17 +7,18 @@ ghost use Rattle.cw_types.specs.declared.ids.Tag.{Tag};
 ghost use Rattle.cw_txn.specs.declared.entry.Entry.{Entry};
 ghost use Rattle.cw_types.specs.Same.{same_part};
 ghost use Rattle.cw_txn.specs.History.{history, base_of, end_of, GoesOn};
-ghost use Rattle.cw_txn.specs.Allowed.{AreAllowed, IsFirstNotAllowed, IsFirstUnchained, IsRaw};
-ghost use Rattle.cw_txn.specs.Walk.{OnListFault};
+ghost use Rattle.cw_txn.specs.Allowed.{AreAllowed, IsRaw};
 ghost use Rattle.cw_txn.specs.Transactions.{AreNext};
 ghost use Rattle.cw_txn.specs.Legal.{epoch_of, is_committed, IsLegal, Chains, IsLegalBehind, ChainsBehind, AreNumbered};
 
 use crate::entry::{Entry, EntryRef, SetOffset};
-use crate::replay::{ListFault, replay};
 use crate::tables::Tables;
-use cw_types::{Decided, Epoch, Name, PartKey, Span, Tag, Tid, Verdict};
+use cw_types::{Decided, Epoch, Name, PartKey, Past, Span, Tag, Tid, Verdict};
 use std::alloc::{AllocError, Global};
 use std::marker::Model;
+
+// A list has at most so many entries, counting those that are reserved, so that its length and every epoch fit a u64.
+pub const MOST_ENTRIES: u64 = 1 << 63;
 
 /// Why an entry wasn't written.
 #[derive(Clone, Copy, Debug, PartialEq, Eq, Drop)]
@@ -42,18 +43,19 @@ impl From<AllocError> for TxnFault {
     }
 }
 
-/// The list of all that was bumped, committed and set, and what follows from it.
-/// Look-ups take no memory and never walk the list.
+/// The list of all that was bumped, committed and set, and what follows from it. At run time it keeps only
+/// what follows from it and the list's length, no entry. Look-ups take no memory.
+/// It has at most 2^63 entries, counting those that are reserved; one more is answered with want of memory.
 #[derive(Drop)]
 pub struct Coordinator {
     alloc: Global,
-    entries: Vec<Entry>,
+    entries: Past<Entry>,
+    length: u64,
     reserved: Vec<Entry>,
     tables: Tables,
 }
 
 impl Model for Coordinator {
-    ghost use Rattle.std.specs.Prelude.{vec_capacity};
     ghost use Rattle.cw_txn.specs.Transactions.{Transactions};
 
     ghost Value = { Transactions };
@@ -62,7 +64,7 @@ impl Model for Coordinator {
 
     ghost view = { λ a. record { entries = a.entries.items; reserved = a.reserved.items } };
 
-    ghost invariant = { λ a. IsCoordinator a.tables a.entries.items a.reserved.items (vec_capacity a.entries) };
+    ghost invariant = { λ a. IsCoordinator a.tables a.entries.items a.reserved.items a.length };
 }
 
 impl Coordinator {
@@ -74,46 +76,26 @@ impl Coordinator {
     {
         Coordinator {
             alloc,
-            entries: Vec::new(alloc),
+            entries: Past::new(),
+            length: 0,
             reserved: Vec::new(alloc),
             tables: Tables::new(alloc),
         }
     }
 
-    /// The coordinator of a list of entries, as it is after they were written one after the other. A fault
-    /// names a place in the list: NotAllowed the first entry that may not stand where it does, else
-    /// Unchained the first of which a part doesn't chain.
-    pub fn of(alloc: Global, entries: Vec<Entry>) -> Result<Coordinator, ListFault>
-        ensures entries { IfOk result (λ c. c ≡ record { entries = entries.items; reserved = [] }) }
-        ensures allowed { OnOk result (AreAllowed entries.items) }
-        ensures chains { OnOk result ((part : PartKey) → Chains part entries.items) }
-        ensures fault { IfErr result (OnListFault (IsFirstNotAllowed entries.items)
-            (λ place. AreAllowed entries.items × IsFirstUnchained entries.items place) ⊤) }
-    {
-        let mut tables = Tables::new(alloc);
-        replay(alloc, &mut tables, entries.as_slice())?;
-        Ok(Coordinator {
-            alloc,
-            entries,
-            reserved: Vec::new(alloc),
-            tables,
-        })
-    }
-
-    /// The entries, the oldest first. They are legal, and every part's spans chain.
-    pub fn entries(&self) -> &[Entry]
-        ensures value { result.now ≡ self.now.entries }
+    /// The law of every coordinator: its entries are legal, and every part's spans chain. It does nothing at run time.
+    pub fn list_is_legal(&self)
         ensures legal { IsLegal self.now.entries }
         ensures chains { (part : PartKey) → Chains part self.now.entries }
     {
-        self.entries.as_slice()
+        let _ = &self.tables;
     }
 
     /// How many entries there are.
     pub fn length(&self) -> u64
         ensures { result ≡ length self.now.entries }
     {
-        self.entries.len() as u64
+        self.length
     }
 
     /// The producer's last epoch, 0 before its first bump.
@@ -186,13 +168,8 @@ impl Coordinator {
         ensures ok { OnOk result (self.new ≡ record self.old { reserved = self.old.reserved ++ entry.now ∷ [] }) }
         ensures err { OnErr result (self.new ≡ self.old) }
     {
-        let room = self.reserved.len() + 1;
-        make_room(
-            &mut self.tables,
-            &mut self.entries,
-            room,
-            &EntryRef::of(entry),
-        )?;
+        let counted = self.length + self.reserved.len() as u64;
+        make_room(&mut self.tables, counted, &EntryRef::of(entry))?;
         self.reserved.push(entry.copy(self.alloc)?)?;
         Ok(())
     }
@@ -280,15 +257,22 @@ impl Coordinator {
     {
         if let Some(at) = place_of(&self.reserved, entry) {
             let reserved = self.reserved.remove(at);
-            settle(&mut self.tables, &mut self.entries, reserved);
+            settle(
+                &mut self.tables,
+                &mut self.entries,
+                &mut self.length,
+                &reserved,
+            );
             return Ok(());
         }
-        let room = self.reserved.len() + 1;
-        make_room(&mut self.tables, &mut self.entries, room, entry)?;
+        let counted = self.length + self.reserved.len() as u64;
+        make_room(&mut self.tables, counted, entry)?;
+        let written = entry.to_entry(self.alloc)?;
         settle(
             &mut self.tables,
             &mut self.entries,
-            entry.to_entry(self.alloc)?,
+            &mut self.length,
+            &written,
         );
         Ok(())
     }
@@ -336,7 +320,7 @@ pub fn raw_transactions_are_new()
 ghost use Rattle.cw_types.specs.declared.ids.Span.{Span};
 ghost use Rattle.cw_types.specs.declared.ids.Epoch.{Epoch};
 ghost use Rattle.cw_txn.specs.declared.entry.SetOffset.{SetOffset};
-ghost use Rattle.cw_txn.specs.Tables.{entry_of, IsFirstAt, Keeps, HasRows, KeepsRows, SameRows};
+ghost use Rattle.cw_txn.specs.Tables.{entry_of, IsFirstAt, Keeps, HasRows, KeepsRows, SameRows, IsCoordinator};
 
 // Whether no part is in two of the spans.
 pub fn have_distinct_parts(spans: &[Span]) -> bool
@@ -378,36 +362,50 @@ fn place_of(entries: &[Entry], entry: &EntryRef<'_>) -> Option<usize>
     None
 }
 
-// Rows for an entry, which change no meaning, and places for so many entries more.
-fn make_room(
-    tables: &mut Tables,
-    entries: &mut Vec<Entry>,
-    more: usize,
-    entry: &EntryRef<'_>,
-) -> Result<(), AllocError>
-    ensures entries { entries.new.items ≡ entries.old.items }
-    ensures room { vec_capacity entries.old ≤ vec_capacity entries.new }
-    ensures more { OnOk result (vec_len entries.new + more ≤ vec_capacity entries.new) }
+// Rows for an entry, which change no meaning, where one more than those counted may be held.
+fn make_room(tables: &mut Tables, counted: u64, entry: &EntryRef<'_>) -> Result<(), AllocError>
+    ensures few { OnOk result (counted < 2 ^ 63) }
     ensures same { SameRows tables.old tables.new }
     ensures kept { KeepsRows tables.old tables.new }
     ensures there { OnOk result (HasRows tables.new (entry_of entry.now)) }
 {
-    tables.make_rows(entry)?;
-    entries.reserve(more)
+    if counted >= MOST_ENTRIES {
+        return Err(AllocError);
+    }
+    tables.make_rows(entry)
 }
 
 // Writes an entry for which there is room.
-fn settle(tables: &mut Tables, entries: &mut Vec<Entry>, entry: Entry)
-    requires room { vec_len entries.old < vec_capacity entries.old }
-    requires rows { HasRows tables.old entry }
+fn settle(tables: &mut Tables, entries: &mut Past<Entry>, count: &mut u64, entry: &Entry)
+    requires counted { count.old ≡ length entries.old.items }
+    requires few { count.old < 2 ^ 63 }
+    requires rows { HasRows tables.old entry.now }
     requires kept { Keeps tables.old entries.old.items }
-    ensures pushed { entries.new.items ≡ entries.old.items ++ entry ∷ [] }
-    ensures room { vec_capacity entries.old ≤ vec_capacity entries.new }
+    ensures written { entries.new.items ≡ entries.old.items ++ entry.now ∷ [] }
+    ensures counted { count.new ≡ count.old + 1 }
     ensures kept { Keeps tables.new entries.new.items }
     ensures rows { KeepsRows tables.old tables.new }
 {
-    tables.add(&entry);
-    if entries.push(entry).is_err() {
-        unreachable!();
+    tables.add(entry);
+    *entries = entries.and(entry);
+    *count += 1;
+}
+
+// The coordinator of entries whose tables these are.
+pub fn coordinator_of(
+    alloc: Global,
+    tables: Tables,
+    entries: Past<Entry>,
+    count: u64,
+) -> Coordinator
+    requires { IsCoordinator tables entries.items [] count }
+    ensures { result ≡ record { entries = entries.items; reserved = [] } }
+{
+    Coordinator {
+        alloc,
+        entries,
+        length: count,
+        reserved: Vec::new(alloc),
+        tables,
     }
 }

@@ -21,4 +21,4 @@ mod tests;
 pub use body::{BodyFault, read_entries, write_entries};
 pub use coordinator::{Coordinator, TxnFault, lists_stay_allowed, raw_transactions_are_new};
 pub use entry::{Entry, SetOffset};
-pub use replay::ListFault;
+pub use replay::{ListFault, Replay};

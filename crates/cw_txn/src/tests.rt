@@ -1,6 +1,7 @@
 //! Runs of the coordinator against answers that come from an independent model.
 use crate::{
-    BodyFault, Coordinator, Entry, ListFault, SetOffset, TxnFault, read_entries, write_entries,
+    BodyFault, Coordinator, Entry, ListFault, Replay, SetOffset, TxnFault, read_entries,
+    write_entries,
 };
 use cw_types::{Decided, Epoch, Listed, Name, PartKey, Span, Tag, TaskId, Tid, Verdict};
 use std::alloc::{AllocError, Global};
@@ -153,51 +154,54 @@ fn reserved_entries_are_written_and_given_up(rt: HostRuntime) -> Result<(), Fail
     assert!(rt; txn.bump(&Tid::Raw(1)) == Ok(Epoch(1)));
     assert!(rt; commit(&rt, &mut txn, &tag(1, 1, 1), 0, &[span(3, 0, 4)]) == Ok(()));
     txn.release();
-    assert_eq!(rt; txn.entries().len(), 2);
+    assert_eq!(rt; txn.length(), 2);
     assert!(rt; txn.is_committed(&tag(1, 1, 1)));
     Ok(())
 }
 
-// The offset 3 of a sink's topic.
-fn sink_set(alloc: Global, connector: &[u8], topic: &[u8]) -> Result<SetOffset, Fail> {
-    Ok(SetOffset {
-        part: PartKey::Sink {
-            connector: Name::read(alloc, connector)?,
-            topic: Name::read(alloc, topic)?,
-        },
-        to: Some(3),
-    })
+// The body of a bump of the script's producer 0.
+fn bump_body() -> [u8; 10] {
+    [0, 0, 0, 1, 1, 3, 0, 0, 0, 0]
 }
 
-// A list: one bump of producer 0, and then its commits of part 0.
-fn list_of(alloc: Global, commits: &[(u64, u64, u64, u64)]) -> Result<Vec<Entry>, AllocError> {
-    let mut entries = Vec::new(alloc);
-    entries.push(Entry::Bump(Tid::Raw(0)))?;
-    for &(epoch, number, from, to) in commits {
-        let mut spans = Vec::new(alloc);
-        spans.push(span(0, from, to))?;
-        entries.push(Entry::Commit {
-            tag: tag(0, epoch, number),
-            generation: 0,
-            spans: Listed::new(spans),
-        })?;
-    }
-    Ok(entries)
+// The body of a commit of that producer: its epoch, its number, and where its span of part 0 begins and ends.
+fn commit_body(epoch: u8, number: u8, from: u8, to: u8) -> [u8; 59] {
+    [
+        0, 0, 0, 1, 2, 3, 0, 0, 0, 0, 0, 0, 0, 0, 0, 0, 0, epoch, 0, 0, 0, 0, 0, 0, 0, number, 0,
+        0, 0, 0, 0, 0, 0, 0, 0, 0, 0, 1, 1, 0, 0, 0, 0, 0, 0, 0, 0, 0, 0, 0, from, 0, 0, 0, 0, 0,
+        0, 0, to,
+    ]
 }
 
 #[test]
 fn list_makes_its_coordinator_or_names_its_first_fault(rt: HostRuntime) -> Result<(), Fail> {
-    // (epoch, number, from, to) of two commits, and the fault
+    // (epoch, number, from, to) of two commits behind a bump, with their gates at 40 and 115, and the fault
     let table = [
         ([(1, 1, 0, 5), (1, 2, 5, 9)], None),
-        ([(1, 1, 0, 5), (1, 3, 5, 9)], Some(ListFault::NotAllowed(2))),
-        ([(0, 1, 0, 5), (1, 2, 0, 9)], Some(ListFault::NotAllowed(1))),
-        ([(1, 1, 3, 5), (1, 2, 7, 9)], Some(ListFault::Unchained(1))),
-        ([(1, 1, 0, 5), (1, 2, 5, 5)], Some(ListFault::Unchained(2))),
-        ([(1, 1, 3, 5), (2, 2, 5, 9)], Some(ListFault::NotAllowed(2))),
+        (
+            [(1, 1, 0, 5), (1, 3, 5, 9)],
+            Some(ListFault::NotAllowed(115)),
+        ),
+        (
+            [(0, 1, 0, 5), (1, 2, 0, 9)],
+            Some(ListFault::NotAllowed(40)),
+        ),
+        ([(1, 1, 3, 5), (1, 2, 7, 9)], Some(ListFault::Unchained(40))),
+        (
+            [(1, 1, 0, 5), (1, 2, 5, 5)],
+            Some(ListFault::Unchained(115)),
+        ),
+        (
+            [(1, 1, 3, 5), (2, 2, 5, 9)],
+            Some(ListFault::NotAllowed(115)),
+        ),
     ];
-    for (commits, fault) in table {
-        match Coordinator::of(rt.alloc(), list_of(rt.alloc(), &commits)?) {
+    for ([(epoch, number, from, to), (other, last, start, stop)], fault) in table {
+        let mut replay = Replay::new(rt.alloc());
+        assert!(rt; replay.take_body(&bump_body(), 16) == Ok(()));
+        assert!(rt; replay.take_body(&commit_body(epoch, number, from, to), 40) == Ok(()));
+        assert!(rt; replay.take_body(&commit_body(other, last, start, stop), 115) == Ok(()));
+        match replay.into_coordinator() {
             Ok(txn) => {
                 assert!(rt; fault.is_none());
                 assert_eq!(rt; txn.length(), 3);
@@ -212,41 +216,63 @@ fn list_makes_its_coordinator_or_names_its_first_fault(rt: HostRuntime) -> Resul
 }
 
 #[test]
+fn unreadable_body_is_answered_behind_any_other_and_leaves_no_entry(
+    rt: HostRuntime,
+) -> Result<(), Fail> {
+    let mut replay = Replay::new(rt.alloc());
+    assert!(rt; replay.take_body(&commit_body(1, 0, 0, 5), 16) == Ok(()));
+    assert!(rt; replay.take_body(&bump_body(), 90) == Ok(()));
+    assert!(rt; replay.take_body(b"\x00\x00\x00\x00", 115) == Err(BodyFault::NotEntries));
+    // Two entries of one body.
+    let bumps =
+        b"\x00\x00\x00\x02\x01\x02\x00\x00\x00\x01a\x00\x00\x00\x00\x01\x03\x00\x00\x00\x02";
+    assert!(rt; replay.take_body(bumps, 16) == Ok(()));
+    match replay.into_coordinator() {
+        Ok(txn) => assert_eq!(rt; txn.length(), 2),
+        Err(_) => assert!(rt; false),
+    }
+    Ok(())
+}
+
+// The body of a set of two sink parts to offset 3 under epoch 0, by the leader or else by task 0 of connector a.
+fn sinks_body(alloc: Global, lead: bool, parts: &[(u8, u8); 2]) -> Result<Vec<u8>, AllocError> {
+    let mut body = Vec::new(alloc);
+    body.extend_from_slice(&[0, 0, 0, 1, 3])?;
+    if lead {
+        body.push(1)?;
+    } else {
+        body.extend_from_slice(&[2, 0, 0, 0, 1, 97, 0, 0, 0, 0])?;
+    }
+    body.extend_from_slice(&[0, 0, 0, 0, 0, 0, 0, 0, 0, 0, 0, 2])?;
+    for &(connector, topic) in parts {
+        body.extend_from_slice(&[4, 0, 0, 0, 1, connector, 0, 0, 0, 1, topic])?;
+        body.extend_from_slice(&[1, 0, 0, 0, 0, 0, 0, 0, 3])?;
+    }
+    Ok(body)
+}
+
+#[test]
 fn sets_are_of_distinct_parts_of_their_producers_connector(rt: HostRuntime) -> Result<(), Fail> {
     // (under the leader, or else a task; the connectors of two sink parts and their topics), and whether it is allowed
     let table = [
-        (true, b"a", b"a", b"t", b"u", true),
-        (true, b"a", b"b", b"t", b"u", false),
-        (true, b"a", b"a", b"t", b"t", false),
-        (false, b"a", b"a", b"t", b"u", true),
-        (false, b"b", b"b", b"t", b"u", false),
+        (true, [(b'a', b't'), (b'a', b'u')], true),
+        (true, [(b'a', b't'), (b'b', b'u')], false),
+        (true, [(b'a', b't'), (b'a', b't')], false),
+        (false, [(b'a', b't'), (b'a', b'u')], true),
+        (false, [(b'b', b't'), (b'b', b'u')], false),
     ];
-    for (lead, first, second, topic, other, allowed) in table {
-        let mut list = Vec::new(rt.alloc());
-        list.push(sink_set(rt.alloc(), first, topic)?)?;
-        list.push(sink_set(rt.alloc(), second, other)?)?;
-        let tid = if lead {
-            Tid::Lead
-        } else {
-            Tid::Task(TaskId {
-                connector: Name::read(rt.alloc(), b"a")?,
-                index: 0,
-            })
-        };
-        let mut entries = Vec::new(rt.alloc());
-        entries.push(Entry::Set {
-            tid,
-            epoch: Epoch(0),
-            list: Listed::new(list),
-        })?;
-        match Coordinator::of(rt.alloc(), entries) {
+    for (lead, parts, allowed) in table {
+        let body = sinks_body(rt.alloc(), lead, &parts)?;
+        let mut replay = Replay::new(rt.alloc());
+        assert!(rt; replay.take_body(body.as_slice(), 16) == Ok(()));
+        match replay.into_coordinator() {
             Ok(txn) => {
                 assert!(rt; allowed);
                 assert_eq!(rt; txn.length(), 1);
             }
             Err(fault) => {
                 assert!(rt; !allowed);
-                assert!(rt; fault == ListFault::NotAllowed(0));
+                assert!(rt; fault == ListFault::NotAllowed(16));
             }
         }
     }
