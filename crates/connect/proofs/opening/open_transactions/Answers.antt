@@ -1,6 +1,8 @@
 use Rattle.std.proofs.Common.{◌≡◌, ◌∙◌, inl, inr, List, ℕ, Some, sym, ap, subst, arith}
+use Rattle.cw_disk.specs.Disk.{Adds}
+use Rattle.cw_disk.proofs.Moments.{adds_then, adds_weaker}
 use Rattle.cw_types.specs.Faults.{Rose}
-use Rattle.cw_log.specs.Log.{StandsFor, IsDamaged}
+use Rattle.cw_log.specs.Log.{StandsFor, StandAlike, IsDamaged}
 use Rattle.connect.specs.Store.{Kept, IsImage, store_of}
 use Rattle.connect.specs.Harms.{HasBodyHarm, HoldsAlike, IsHarmed}
 use Rattle.connect.proofs.Alike.{StandsThrough, holds_alike}
@@ -49,3 +51,16 @@ returns-in-Err-clause-cause g c =
     (λ at harm found. (inl (gone ∙ found.0), λ file is. inl (found.1 file is)))
     (λ rose. (omega (arith, rose, ap g.D.Disk.count c.refused-in-Err.ensures.disk), ap g.D.Disk.count (sym c.refused-in-Err.ensures.disk)))
     (λ stays. inl (gone ∙ stays)) c.in-Err.fault.cause c.refused-in-Err.result.cause c.refused-in-Err.ensures.cause c.in-Err.ensures.cause
+
+pub returns-in-Ok-coordinator_of-clause-image : goal.returns-in-Ok-coordinator_of-clause-image
+returns-in-Ok-coordinator_of-clause-image g c file is =
+    let t = c.in-Ok.ensures.list file is in
+    let list = c.in-Ok-coordinator_of.ensures.kept.1 t.0 t.1 in
+    subst (λ (k : Kept g.row.D.Denot). IsImage (store_of k) file) (sym c.of.ensures) (record { bodies = t.0; stands = t.2; hold = list.0; size = list.1 })
+
+pub returns-in-Ok-coordinator_of-clause-any_moment : goal.returns-in-Ok-coordinator_of-clause-any_moment
+returns-in-Ok-coordinator_of-clause-any_moment g c file is =
+    subst (λ (k : Kept g.row.D.Denot). Adds g.D.Disk.moment g.D.Disk.left_since c.args.disk k.log.disk (StandAlike 4 file)) (sym c.of.ensures)
+    (adds_then g.D.Disk.moment g.D.Disk.left_since c.args.disk c.in-Ok.log.disk c.coordinator_of.new.log.disk (StandAlike 4 file)
+    (c.in-Ok.ensures.any_moment file is)
+    (adds_weaker g.D.Disk.moment g.D.Disk.left_since c.in-Ok.log.disk c.coordinator_of.new.log.disk (λ image. ⊥) (StandAlike 4 file) c.coordinator_of.ensures.reads.adds (λ image none. absurd none)))
