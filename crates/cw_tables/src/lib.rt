@@ -5,8 +5,10 @@
 #![tactic(auto)]
 
 pub mod hashed;
+mod numbered;
 mod rows;
 #[cfg(test)]
 mod tests;
 
+pub use numbered::Numbered;
 pub use rows::{has_row, make_row, set_row, take_row, value_at};

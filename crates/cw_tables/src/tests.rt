@@ -1,6 +1,6 @@
 //! Each call once with ample memory.
 
-use crate::{has_row, hashed, make_row, set_row, take_row, value_at};
+use crate::{Numbered, has_row, hashed, make_row, set_row, take_row, value_at};
 use std::collections::{BTreeMap, HashMap};
 use std::test::Fail;
 
@@ -38,5 +38,23 @@ fn rows_by_hashes_read_as_missing_ones_until_they_are_set(rt: HostRuntime) -> Re
     assert_eq!(rt; hashed::take_row(&mut table, &7), Some(7));
     assert_eq!(rt; hashed::take_row(&mut table, &7), None);
     assert_eq!(rt; hashed::value_at(&table, &7, 3), 3);
+    Ok(())
+}
+
+#[test]
+fn small_and_great_numbers_have_rows_of_one_table(rt: HostRuntime) -> Result<(), Fail> {
+    let mut table: Numbered<u64> = Numbered::new(rt.alloc());
+    for number in [5, 1_048_575, 1_048_576, u32::MAX] {
+        assert_eq!(rt; table.get(number).unwrap_or(3), 3);
+        table.make(number, 3)?;
+        assert_eq!(rt; table.get(number), Some(3));
+        table.set(number, number as u64);
+    }
+    table.make(5, 3)?;
+    for number in [5, 1_048_575, 1_048_576, u32::MAX] {
+        assert_eq!(rt; table.get(number), Some(number as u64));
+    }
+    assert_eq!(rt; table.get(6).unwrap_or(3), 3);
+    assert_eq!(rt; table.get(1_048_577), None);
     Ok(())
 }

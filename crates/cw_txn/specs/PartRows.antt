@@ -1,16 +1,17 @@
 -- What the table of parts says of a part. Internal: no public contract cites this.
-use Rattle.std.specs.Prelude.{nat_eq, Option, IsSome, unwrap_or}
+use Rattle.std.specs.Prelude.{Option, IsSome, unwrap_or}
 use Rattle.std.specs.HashMap.{get}
 use Rattle.cw_types.specs.declared.ids.PartKey.{PartKey}
 use Rattle.cw_types.specs.declared.ids.PartKey.TheVariants.{Raw, File, Seq, Sink}
 use Rattle.cw_txn.specs.declared.parts.History.{History}
 use Rattle.cw_txn.specs.declared.parts.Parts.{Parts}
+use Rattle.cw_tables.specs.Numbered.{numbered_row}
 use Rattle.cw_types.specs.Same.{part_eq}
 use Rattle.cw_txn.specs.History.{unset}
 
 -- the row of a part: a script's by its number, another by its key
 abbrev pub part_row : Parts → PartKey → Option History
-part_row parts (Raw n) = get nat_eq parts.numbered n
+part_row parts (Raw n) = numbered_row parts.numbered n
 part_row parts (File a f) = get part_eq parts.named (File a f)
 part_row parts (Seq a i) = get part_eq parts.named (Seq a i)
 part_row parts (Sink a t) = get part_eq parts.named (Sink a t)

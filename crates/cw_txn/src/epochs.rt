@@ -4,16 +4,16 @@ ghost use Rattle.std.specs.HashMap.{get};
 ghost use Rattle.cw_types.specs.declared.ids.Tid.{Tid};
 ghost use Rattle.cw_types.specs.Same.{same_tid};
 
+use cw_tables::Numbered;
 use cw_tables::hashed::{has_row, make_row, value_at};
 use cw_types::Tid;
 use std::alloc::{AllocError, Global};
 use std::collections::HashMap;
-use std::hash::Hash;
 
 // The epoch of each producer. Those of scripts are found by their numbers alone, which keeps their rows small.
 #[derive(Drop)]
 pub struct Epochs {
-    pub numbered: HashMap<u32, u64>,
+    pub numbered: Numbered<u64>,
     pub named: HashMap<Tid, u64>,
 }
 
@@ -24,7 +24,7 @@ impl Epochs {
         ensures { (q : Tid) → epoch_row result q ≡ None }
     {
         Epochs {
-            numbered: HashMap::new(alloc),
+            numbered: Numbered::new(alloc),
             named: HashMap::new(alloc),
         }
     }
@@ -36,7 +36,7 @@ impl Epochs {
         match tid {
             Tid::Lead => value_at(&self.named, tid, 0),
             Tid::Task(_) => value_at(&self.named, tid, 0),
-            Tid::Raw(number) => value_at(&self.numbered, number, 0),
+            Tid::Raw(number) => self.numbered.get(*number).unwrap_or(0),
         }
     }
 
@@ -49,7 +49,7 @@ impl Epochs {
         match tid {
             Tid::Lead => make_named(&mut self.named, tid),
             Tid::Task(_) => make_named(&mut self.named, tid),
-            Tid::Raw(number) => make_numbered(&mut self.numbered, *number),
+            Tid::Raw(number) => self.numbered.make(*number, 0),
         }
     }
 
@@ -60,9 +60,9 @@ impl Epochs {
         ensures raised { (q : Tid) → epoch_row self.new q ≡ (if result && same_tid tid.now q then Some (epoch_at self.old tid.now + 1) else epoch_row self.old q) }
     {
         match tid {
-            Tid::Lead => raise_row(&mut self.named, tid),
-            Tid::Task(_) => raise_row(&mut self.named, tid),
-            Tid::Raw(number) => raise_row(&mut self.numbered, number),
+            Tid::Lead => raise_name(&mut self.named, tid),
+            Tid::Task(_) => raise_name(&mut self.named, tid),
+            Tid::Raw(number) => raise_number(&mut self.numbered, *number),
         }
     }
 
@@ -74,34 +74,15 @@ impl Epochs {
         if self.raise(tid) {
             return Ok(());
         }
-        self.begin(tid)
-    }
-
-    // The first epoch of a producer, in a new row or in its own.
-    fn begin(&mut self, tid: &Tid) -> Result<(), AllocError>
-        ensures { OnOk result ((q : Tid) → epoch_row self.new q ≡ (if same_tid tid.now q then Some 1 else epoch_row self.old q)) }
-    {
-        match tid {
-            Tid::Lead => begin_named(&mut self.named, tid),
-            Tid::Task(_) => begin_named(&mut self.named, tid),
-            Tid::Raw(number) => begin_numbered(&mut self.numbered, *number),
-        }
+        self.make(tid)?;
+        let _ = self.raise(tid);
+        Ok(())
     }
 }
 
 ghost use Rattle.std.specs.Prelude.{ℕ, nat_eq};
+ghost use Rattle.cw_tables.specs.Numbered.{numbered_row};
 ghost use Rattle.cw_types.specs.Same.{tid_eq};
-
-fn make_numbered(rows: &mut HashMap<u32, u64>, number: u32) -> Result<(), AllocError>
-    ensures same { (q : ℕ) → unwrap_or (get nat_eq rows.new q) 0 ≡ unwrap_or (get nat_eq rows.old q) 0 }
-    ensures kept { (q : ℕ) → IsSome (get nat_eq rows.old q) → IsSome (get nat_eq rows.new q) }
-    ensures there { OnOk result (IsSome (get nat_eq rows.new number)) }
-{
-    if has_row(rows, &number) {
-        return Ok(());
-    }
-    make_row(rows, number, 0)
-}
 
 fn make_named(rows: &mut HashMap<Tid, u64>, tid: &Tid) -> Result<(), AllocError>
     ensures same { (q : Tid) → unwrap_or (get tid_eq rows.new q) 0 ≡ unwrap_or (get tid_eq rows.old q) 0 }
@@ -114,30 +95,30 @@ fn make_named(rows: &mut HashMap<Tid, u64>, tid: &Tid) -> Result<(), AllocError>
     make_row(rows, tid.copy()?, 0)
 }
 
-fn raise_row<K: Eq + Hash>(rows: &mut HashMap<K, u64>, key: &K) -> bool
-    requires { unwrap_or (get K.eq rows.old key.now) 0 + 1 < 2 ^ 64 }
-    ensures there { result ≡ is_some (get K.eq rows.old key.now) }
-    ensures raised { (q : K) → get K.eq rows.new q ≡ (if result && K.eq key.now q then Some (unwrap_or (get K.eq rows.old key.now) 0 + 1) else get K.eq rows.old q) }
+fn raise_number(rows: &mut Numbered<u64>, number: u32) -> bool
+    requires { unwrap_or (numbered_row rows.old number) 0 + 1 < 2 ^ 64 }
+    ensures there { result ≡ is_some (numbered_row rows.old number) }
+    ensures raised { (q : ℕ) → numbered_row rows.new q ≡ (if result && nat_eq number q then Some (unwrap_or (numbered_row rows.old number) 0 + 1) else numbered_row rows.old q) }
 {
-    match rows.get_mut(key) {
+    match rows.get(number) {
         Some(epoch) => {
-            *epoch += 1;
+            rows.set(number, epoch + 1);
             true
         }
         None => false,
     }
 }
 
-fn begin_numbered(rows: &mut HashMap<u32, u64>, number: u32) -> Result<(), AllocError>
-    ensures { OnOk result ((q : ℕ) → get nat_eq rows.new q ≡ (if nat_eq number q then Some 1 else get nat_eq rows.old q)) }
+fn raise_name(rows: &mut HashMap<Tid, u64>, tid: &Tid) -> bool
+    requires { unwrap_or (get tid_eq rows.old tid.now) 0 + 1 < 2 ^ 64 }
+    ensures there { result ≡ is_some (get tid_eq rows.old tid.now) }
+    ensures raised { (q : Tid) → get tid_eq rows.new q ≡ (if result && tid_eq tid.now q then Some (unwrap_or (get tid_eq rows.old tid.now) 0 + 1) else get tid_eq rows.old q) }
 {
-    rows.insert(number, 1)?;
-    Ok(())
-}
-
-fn begin_named(rows: &mut HashMap<Tid, u64>, tid: &Tid) -> Result<(), AllocError>
-    ensures { OnOk result ((q : Tid) → get tid_eq rows.new q ≡ (if tid_eq tid.now q then Some 1 else get tid_eq rows.old q)) }
-{
-    rows.insert(tid.copy()?, 1)?;
-    Ok(())
+    match rows.get_mut(tid) {
+        Some(epoch) => {
+            *epoch += 1;
+            true
+        }
+        None => false,
+    }
 }

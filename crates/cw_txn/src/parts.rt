@@ -2,14 +2,15 @@
 ghost use Rattle.std.specs.Prelude.{◌≡◌, ◌↔◌, ◌&&◌, ℕ, nat_eq, IfOk, OnOk, IsSome, IsTrue, Some, None, is_some, unwrap_or, if◌then◌else◌};
 ghost use Rattle.std.specs.HashMap.{get};
 ghost use Rattle.cw_types.specs.declared.ids.PartKey.{PartKey};
+ghost use Rattle.cw_tables.specs.Numbered.{numbered_row};
 ghost use Rattle.cw_types.specs.Same.{same_part, part_eq};
 ghost use Rattle.cw_txn.specs.History.{unset, after_span, GoesOn};
 
+use cw_tables::Numbered;
 use cw_tables::hashed::{has_row, make_row, set_row, value_at};
 use cw_types::{PartKey, Span};
 use std::alloc::{AllocError, Global};
 use std::collections::HashMap;
-use std::hash::Hash;
 
 /// What is committed of a part.
 #[derive(Clone, Copy, Debug, PartialEq, Eq, Drop)]
@@ -34,7 +35,7 @@ impl History {
 // The history of each part. Those of scripts are found by their numbers alone, which keeps their rows small.
 #[derive(Drop)]
 pub struct Parts {
-    pub numbered: HashMap<u32, History>,
+    pub numbered: Numbered<History>,
     pub named: HashMap<PartKey, History>,
 }
 
@@ -45,7 +46,7 @@ impl Parts {
         ensures { (q : PartKey) → part_row result q ≡ None }
     {
         Parts {
-            numbered: HashMap::new(alloc),
+            numbered: Numbered::new(alloc),
             named: HashMap::new(alloc),
         }
     }
@@ -54,7 +55,7 @@ impl Parts {
         ensures { result ≡ history_at self.now part.now }
     {
         match part {
-            PartKey::Raw(number) => value_at(&self.numbered, number, History::UNSET),
+            PartKey::Raw(number) => self.numbered.get(*number).unwrap_or(History::UNSET),
             PartKey::File { .. } => value_at(&self.named, part, History::UNSET),
             PartKey::Seq { .. } => value_at(&self.named, part, History::UNSET),
             PartKey::Sink { .. } => value_at(&self.named, part, History::UNSET),
@@ -68,7 +69,7 @@ impl Parts {
         ensures there { OnOk result (HasPart self.new part.now) }
     {
         match part {
-            PartKey::Raw(number) => make_numbered(&mut self.numbered, *number),
+            PartKey::Raw(number) => self.numbered.make(*number, History::UNSET),
             PartKey::File { .. } => make_named(&mut self.named, part),
             PartKey::Seq { .. } => make_named(&mut self.named, part),
             PartKey::Sink { .. } => make_named(&mut self.named, part),
@@ -81,7 +82,7 @@ impl Parts {
         ensures { (q : PartKey) → part_row self.new q ≡ (if same_part part.now q then Some history else part_row self.old q) }
     {
         match part {
-            PartKey::Raw(number) => set_row(&mut self.numbered, number, history),
+            PartKey::Raw(number) => self.numbered.set(*number, history),
             PartKey::File { .. } => set_row(&mut self.named, part, history),
             PartKey::Seq { .. } => set_row(&mut self.named, part, history),
             PartKey::Sink { .. } => set_row(&mut self.named, part, history),
@@ -94,10 +95,10 @@ impl Parts {
         ensures moved { (q : PartKey) → part_row self.new q ≡ (if is_some result && same_part span.now.part q then Some (record { base = (history_at self.old span.now.part).base; end = Some span.now.to }) else part_row self.old q) }
     {
         match &span.part {
-            PartKey::Raw(number) => move_row(&mut self.numbered, number, span),
-            PartKey::File { .. } => move_row(&mut self.named, &span.part, span),
-            PartKey::Seq { .. } => move_row(&mut self.named, &span.part, span),
-            PartKey::Sink { .. } => move_row(&mut self.named, &span.part, span),
+            PartKey::Raw(number) => move_number(&mut self.numbered, *number, span),
+            PartKey::File { .. } => move_name(&mut self.named, span),
+            PartKey::Seq { .. } => move_name(&mut self.named, span),
+            PartKey::Sink { .. } => move_name(&mut self.named, span),
         }
     }
 
@@ -109,34 +110,12 @@ impl Parts {
         match self.move_end(span) {
             Some(before) => Ok(before.goes_on(span)),
             None => {
-                self.begin(span)?;
+                self.make(&span.part)?;
+                let _ = self.move_end(span);
                 Ok(History::UNSET.goes_on(span))
             }
         }
     }
-
-    // The first end of a part, in a new row or in its own.
-    fn begin(&mut self, span: &Span) -> Result<(), AllocError>
-        ensures { OnOk result ((q : PartKey) → part_row self.new q ≡ (if same_part span.now.part q then Some (record { base = 0; end = Some span.now.to }) else part_row self.old q)) }
-    {
-        match &span.part {
-            PartKey::Raw(number) => begin_numbered(&mut self.numbered, *number, span),
-            PartKey::File { .. } => begin_named(&mut self.named, span),
-            PartKey::Seq { .. } => begin_named(&mut self.named, span),
-            PartKey::Sink { .. } => begin_named(&mut self.named, span),
-        }
-    }
-}
-
-fn make_numbered(rows: &mut HashMap<u32, History>, number: u32) -> Result<(), AllocError>
-    ensures same { (q : ℕ) → unwrap_or (get nat_eq rows.new q) unset ≡ unwrap_or (get nat_eq rows.old q) unset }
-    ensures kept { (q : ℕ) → IsSome (get nat_eq rows.old q) → IsSome (get nat_eq rows.new q) }
-    ensures there { OnOk result (IsSome (get nat_eq rows.new number)) }
-{
-    if has_row(rows, &number) {
-        return Ok(());
-    }
-    make_row(rows, number, History::UNSET)
 }
 
 fn make_named(rows: &mut HashMap<PartKey, History>, part: &PartKey) -> Result<(), AllocError>
@@ -150,15 +129,22 @@ fn make_named(rows: &mut HashMap<PartKey, History>, part: &PartKey) -> Result<()
     make_row(rows, part.copy()?, History::UNSET)
 }
 
-fn move_row<K: Eq + Hash>(
-    rows: &mut HashMap<K, History>,
-    key: &K,
-    span: &Span,
-) -> Option<History>
-    ensures before { result ≡ get K.eq rows.old key.now }
-    ensures moved { (q : K) → get K.eq rows.new q ≡ (if is_some result && K.eq key.now q then Some (record { base = (unwrap_or (get K.eq rows.old key.now) unset).base; end = Some span.now.to }) else get K.eq rows.old q) }
+fn move_number(rows: &mut Numbered<History>, number: u32, span: &Span) -> Option<History>
+    ensures before { result ≡ numbered_row rows.old number }
+    ensures moved { (q : ℕ) → numbered_row rows.new q ≡ (if is_some result && nat_eq number q then Some (record { base = (unwrap_or (numbered_row rows.old number) unset).base; end = Some span.now.to }) else numbered_row rows.old q) }
 {
-    match rows.get_mut(key) {
+    let row = rows.get(number);
+    if let Some(before) = row {
+        rows.set(number, ended(before, span));
+    }
+    row
+}
+
+fn move_name(rows: &mut HashMap<PartKey, History>, span: &Span) -> Option<History>
+    ensures before { result ≡ get part_eq rows.old span.now.part }
+    ensures moved { (q : PartKey) → get part_eq rows.new q ≡ (if is_some result && part_eq span.now.part q then Some (record { base = (unwrap_or (get part_eq rows.old span.now.part) unset).base; end = Some span.now.to }) else get part_eq rows.old q) }
+{
+    match rows.get_mut(&span.part) {
         Some(row) => {
             let before = *row;
             *row = ended(before, span);
@@ -166,24 +152,6 @@ fn move_row<K: Eq + Hash>(
         }
         None => None,
     }
-}
-
-fn begin_numbered(
-    rows: &mut HashMap<u32, History>,
-    number: u32,
-    span: &Span,
-) -> Result<(), AllocError>
-    ensures { OnOk result ((q : ℕ) → get nat_eq rows.new q ≡ (if nat_eq number q then Some (record { base = 0; end = Some span.now.to }) else get nat_eq rows.old q)) }
-{
-    rows.insert(number, ended(History::UNSET, span))?;
-    Ok(())
-}
-
-fn begin_named(rows: &mut HashMap<PartKey, History>, span: &Span) -> Result<(), AllocError>
-    ensures { OnOk result ((q : PartKey) → get part_eq rows.new q ≡ (if part_eq span.now.part q then Some (record { base = 0; end = Some span.now.to }) else get part_eq rows.old q)) }
-{
-    rows.insert(span.part.copy()?, ended(History::UNSET, span))?;
-    Ok(())
 }
 
 // A part's history with its end at a span's.

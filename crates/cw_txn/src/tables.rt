@@ -180,10 +180,7 @@ fn make_span_parts(parts: &mut Parts, spans: &[Span]) -> Result<(), AllocError>
     Ok(())
 }
 
-fn make_set_parts(
-    parts: &mut Parts,
-    list: &[SetOffset],
-) -> Result<(), AllocError>
+fn make_set_parts(parts: &mut Parts, list: &[SetOffset]) -> Result<(), AllocError>
     ensures same { (q : PartKey) → history_at parts.new q ≡ history_at parts.old q }
     ensures kept { (q : PartKey) → HasPart parts.old q → HasPart parts.new q }
     ensures there { OnOk result (All (λ set. HasPart parts.new set.part) list.now) }

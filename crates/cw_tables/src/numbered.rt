@@ -1,0 +1,83 @@
+//! A table by numbers, most of which are small.
+ghost use Rattle.std.specs.Prelude.{◌≡◌, ℕ, nat_eq, OnOk, IsSome, Some, unwrap_or, if◌then◌else◌};
+
+use crate::hashed;
+use std::alloc::{AllocError, Global};
+use std::collections::HashMap;
+
+// Numbers below it are places of a list.
+const LOW: u32 = 1 << 20;
+
+/// A table by numbers. Those below 2^20 are places of a list, which a look-up reads at once, and up to the greatest of
+/// which it takes memory; others have rows of a map.
+#[derive(Drop)]
+pub struct Numbered<V> {
+    low: Vec<V>,
+    high: HashMap<u32, V>,
+}
+
+impl<V: Copy + Drop> Numbered<V> {
+    ghost use Rattle.cw_tables.specs.Numbered.{numbered_row};
+
+    /// With no row.
+    pub fn new(alloc: Global) -> Numbered<V>
+        ensures { (q : ℕ) → numbered_row result q ≡ None }
+    {
+        Numbered {
+            low: Vec::new(alloc),
+            high: HashMap::new(alloc),
+        }
+    }
+
+    /// The row of a number.
+    pub fn get(&self, number: u32) -> Option<V>
+        ensures { result ≡ numbered_row self.now number }
+    {
+        if number < LOW {
+            return self.low.get(number as usize).copied();
+        }
+        self.high.get(&number).copied()
+    }
+
+    /// Sets a new value in a row that is there.
+    pub fn set(&mut self, number: u32, value: V)
+        requires { IsSome (numbered_row self.old number) }
+        ensures { (q : ℕ) → numbered_row self.new q ≡ (if nat_eq number q then Some value else numbered_row self.old q) }
+    {
+        if number < LOW {
+            self.low[number as usize] = value;
+            return;
+        }
+        hashed::set_row(&mut self.high, &number, value);
+    }
+
+    /// Makes a row for a number, and may make others. Each reads as a missing one, so that the table reads as before.
+    pub fn make(&mut self, number: u32, missing: V) -> Result<(), AllocError>
+        ensures same { (q : ℕ) → unwrap_or (numbered_row self.new q) missing ≡ unwrap_or (numbered_row self.old q) missing }
+        ensures kept { (q : ℕ) → IsSome (numbered_row self.old q) → IsSome (numbered_row self.new q) }
+        ensures there { OnOk result (IsSome (numbered_row self.new number)) }
+    {
+        if number < LOW {
+            return reach(&mut self.low, number, missing);
+        }
+        if hashed::has_row(&self.high, &number) {
+            return Ok(());
+        }
+        hashed::make_row(&mut self.high, number, missing)
+    }
+}
+
+ghost use Rattle.std.specs.Prelude.{◌<◌, slice_get, length};
+
+// A list that reaches a place, and reads as before where a missing value is this one.
+fn reach<V: Copy + Drop>(list: &mut Vec<V>, place: u32, missing: V) -> Result<(), AllocError>
+    ensures same { (q : ℕ) → unwrap_or (slice_get list.new.items q) missing ≡ unwrap_or (slice_get list.old.items q) missing }
+    ensures kept { (q : ℕ) → IsSome (slice_get list.old.items q) → IsSome (slice_get list.new.items q) }
+    ensures there { OnOk result (place < length list.new.items) }
+{
+    let count = place as usize + 1;
+    if count <= list.len() {
+        return Ok(());
+    }
+    list.resize(count, missing)
+}
