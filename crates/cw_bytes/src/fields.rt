@@ -11,6 +11,7 @@ use crate::numbers::{past, u8_of, u32_of, u64_of};
 use cw_types::{Epoch, Listed, Name, NameFault, PartKey, Span, Tag, TaskId, Tid};
 use std::alloc::Global;
 
+#[inline]
 fn cut<'a>(place: usize, count: usize, from: Input<'a>) -> Result<(&'a [u8], Input<'a>), FieldFault>
     ensures { Gives (λ x. (x.0.now, unread x.1)) result (cut_at place count (unread from.entry)) }
 {
@@ -21,6 +22,7 @@ fn cut<'a>(place: usize, count: usize, from: Input<'a>) -> Result<(&'a [u8], Inp
 }
 
 #[tactic(auto, unfolding(crate::specs::Reading::text_at))]
+#[inline]
 pub fn text_of(from: Input<'_>) -> Result<(&[u8], Input<'_>), FieldFault>
     ensures { Gives (λ x. (x.0.now, unread x.1)) result (text_at (unread from.entry)) }
 {
@@ -29,6 +31,7 @@ pub fn text_of(from: Input<'_>) -> Result<(&[u8], Input<'_>), FieldFault>
 }
 
 #[tactic(auto, unfolding(crate::specs::Reading::name_at))]
+#[inline]
 fn name_of(alloc: Global, from: Input<'_>) -> Result<(Name, Input<'_>), FieldFault>
     ensures { Gives (λ x. (x.0, unread x.1)) result (name_at (unread from.entry)) }
 {
@@ -43,6 +46,7 @@ fn name_of(alloc: Global, from: Input<'_>) -> Result<(Name, Input<'_>), FieldFau
 }
 
 #[tactic(auto, unfolding(crate::specs::Reading::task_at))]
+#[inline]
 fn task_of(alloc: Global, from: Input<'_>) -> Result<(Tid, Input<'_>), FieldFault>
     ensures { Gives (λ x. (x.0, unread x.1)) result (task_at (unread from.entry)) }
 {
@@ -52,6 +56,7 @@ fn task_of(alloc: Global, from: Input<'_>) -> Result<(Tid, Input<'_>), FieldFaul
 }
 
 #[tactic(auto, unfolding(crate::specs::Reading::raw_id_at))]
+#[inline]
 fn raw_id_of(from: Input<'_>) -> Result<(Tid, Input<'_>), FieldFault>
     ensures { Gives (λ x. (x.0, unread x.1)) result (raw_id_at (unread from.entry)) }
 {
@@ -60,6 +65,7 @@ fn raw_id_of(from: Input<'_>) -> Result<(Tid, Input<'_>), FieldFault>
 }
 
 #[tactic(auto, unfolding(crate::specs::Reading::tid_at))]
+#[inline]
 pub fn tid_of(alloc: Global, from: Input<'_>) -> Result<(Tid, Input<'_>), FieldFault>
     ensures { Gives (λ x. (x.0, unread x.1)) result (tid_at (unread from.entry)) }
 {
@@ -73,6 +79,7 @@ pub fn tid_of(alloc: Global, from: Input<'_>) -> Result<(Tid, Input<'_>), FieldF
 }
 
 #[tactic(auto, unfolding(crate::specs::Reading::tag_at))]
+#[inline]
 pub fn tag_of(alloc: Global, from: Input<'_>) -> Result<(Tag, Input<'_>), FieldFault>
     ensures { Gives (λ x. (x.0, unread x.1)) result (tag_at (unread from.entry)) }
 {
@@ -109,6 +116,7 @@ pub fn mark_of(alloc: Global, from: Input<'_>) -> Result<(Mark, Input<'_>), Fiel
 }
 
 #[tactic(auto, unfolding(crate::specs::Reading::raw_part_at))]
+#[inline]
 fn raw_part_of(from: Input<'_>) -> Result<(PartKey, Input<'_>), FieldFault>
     ensures { Gives (λ x. (x.0, unread x.1)) result (raw_part_at (unread from.entry)) }
 {
@@ -144,6 +152,7 @@ fn sink_of(alloc: Global, from: Input<'_>) -> Result<(PartKey, Input<'_>), Field
 }
 
 #[tactic(auto, unfolding(crate::specs::Reading::part_at))]
+#[inline]
 pub fn part_of(alloc: Global, from: Input<'_>) -> Result<(PartKey, Input<'_>), FieldFault>
     ensures { Gives (λ x. (x.0, unread x.1)) result (part_at (unread from.entry)) }
 {
@@ -158,6 +167,7 @@ pub fn part_of(alloc: Global, from: Input<'_>) -> Result<(PartKey, Input<'_>), F
 }
 
 #[tactic(auto, unfolding(crate::specs::Reading::span_at))]
+#[inline]
 pub fn span_of(alloc: Global, from: Input<'_>) -> Result<(Span, Input<'_>), FieldFault>
     ensures { Gives (λ x. (x.0, unread x.1)) result (span_at (unread from.entry)) }
 {

@@ -8,6 +8,7 @@ ghost use Rattle.cw_bytes.specs.Reading.{Gives, byte_at, number_at};
 use crate::fault::FieldFault;
 use crate::input::Input;
 
+#[inline]
 pub fn past(from: Input<'_>, count: usize) -> Input<'_>
     requires { count ≤ length from.rest.now }
     ensures { unread result ≡ past count (unread from.entry) }
@@ -18,6 +19,7 @@ pub fn past(from: Input<'_>, count: usize) -> Input<'_>
     }
 }
 
+#[inline]
 pub fn u8_of(from: Input<'_>) -> Result<(u8, Input<'_>), FieldFault>
     ensures { Gives (λ x. (x.0, unread x.1)) result (byte_at (unread from.entry)) }
 {
@@ -33,6 +35,7 @@ pub fn u8_of(from: Input<'_>) -> Result<(u8, Input<'_>), FieldFault>
     }
 }
 
+#[inline]
 pub fn u32_of(from: Input<'_>) -> Result<(u32, Input<'_>), FieldFault>
     ensures { Gives (λ x. (x.0, unread x.1)) result (number_at w32 (unread from.entry)) }
 {
@@ -44,6 +47,7 @@ pub fn u32_of(from: Input<'_>) -> Result<(u32, Input<'_>), FieldFault>
     Ok((number, past(from, 4)))
 }
 
+#[inline]
 pub fn u64_of(from: Input<'_>) -> Result<(u64, Input<'_>), FieldFault>
     ensures { Gives (λ x. (x.0, unread x.1)) result (number_at w64 (unread from.entry)) }
 {

@@ -61,6 +61,7 @@ impl<'a> Reader<'a> {
     }
 
     /// Whether all bytes are read.
+    #[inline]
     pub fn is_empty(&self) -> bool
         ensures { result ≡ (length self.now.rest == 0) }
     {
@@ -68,6 +69,7 @@ impl<'a> Reader<'a> {
     }
 
     /// Reads a byte.
+    #[inline]
     pub fn take_u8(&mut self) -> Result<u8, FieldFault>
         ensures value { Gives (λ byte. (byte, self.new)) result (byte_at self.old) }
         ensures as_before { OnErr result (self.new ≡ self.old) }
@@ -78,6 +80,7 @@ impl<'a> Reader<'a> {
     }
 
     /// Reads four bytes as a number.
+    #[inline]
     pub fn take_u32(&mut self) -> Result<u32, FieldFault>
         ensures value { Gives (λ number. (number, self.new)) result (number_at w32 self.old) }
         ensures as_before { OnErr result (self.new ≡ self.old) }
@@ -89,6 +92,7 @@ impl<'a> Reader<'a> {
     }
 
     /// Reads eight bytes as a number.
+    #[inline]
     pub fn take_u64(&mut self) -> Result<u64, FieldFault>
         ensures value { Gives (λ number. (number, self.new)) result (number_at w64 self.old) }
         ensures as_before { OnErr result (self.new ≡ self.old) }
@@ -112,6 +116,7 @@ impl<'a> Reader<'a> {
 }
 
 /// Reads a producer's id.
+#[inline]
 pub fn read_tid(alloc: Global, from: &mut Reader<'_>) -> Result<Tid, FieldFault>
     ensures value { Gives (λ tid. (tid, from.new)) result (tid_at from.old) }
     ensures as_before { OnErr result (from.new ≡ from.old) }
@@ -123,6 +128,7 @@ pub fn read_tid(alloc: Global, from: &mut Reader<'_>) -> Result<Tid, FieldFault>
 }
 
 /// Reads a transaction.
+#[inline]
 pub fn read_tag(alloc: Global, from: &mut Reader<'_>) -> Result<Tag, FieldFault>
     ensures value { Gives (λ tag. (tag, from.new)) result (tag_at from.old) }
     ensures as_before { OnErr result (from.new ≡ from.old) }
@@ -145,6 +151,7 @@ pub fn read_mark(alloc: Global, from: &mut Reader<'_>) -> Result<Mark, FieldFaul
 }
 
 /// Reads a part.
+#[inline]
 pub fn read_part(alloc: Global, from: &mut Reader<'_>) -> Result<PartKey, FieldFault>
     ensures value { Gives (λ part. (part, from.new)) result (part_at from.old) }
     ensures as_before { OnErr result (from.new ≡ from.old) }
@@ -156,6 +163,7 @@ pub fn read_part(alloc: Global, from: &mut Reader<'_>) -> Result<PartKey, FieldF
 }
 
 /// Reads a span.
+#[inline]
 pub fn read_span(alloc: Global, from: &mut Reader<'_>) -> Result<Span, FieldFault>
     ensures value { Gives (λ span. (span, from.new)) result (span_at from.old) }
     ensures as_before { OnErr result (from.new ≡ from.old) }

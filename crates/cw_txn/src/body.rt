@@ -71,6 +71,7 @@ fn read_set(alloc: Global, from: &mut Reader<'_>) -> Result<SetOffset, FieldFaul
     Ok(SetOffset { part, to })
 }
 
+#[inline]
 fn read_many_spans(
     alloc: Global,
     count: u32,
@@ -117,6 +118,7 @@ fn read_many_entries(
 }
 
 #[tactic(auto, unfolding(crate::specs::BodyReading::list_at))]
+#[inline]
 fn read_spans(alloc: Global, from: &mut Reader<'_>) -> Result<Listed<Span>, FieldFault>
     ensures { Gives (λ spans. (spans, from.new)) result (list_at span_at from.old) }
 {
@@ -135,6 +137,7 @@ fn read_sets(alloc: Global, from: &mut Reader<'_>) -> Result<Listed<SetOffset>, 
 }
 
 #[tactic(auto, unfolding(crate::specs::BodyReading::bump_at))]
+#[inline]
 fn read_bump(alloc: Global, from: &mut Reader<'_>) -> Result<Entry, FieldFault>
     ensures { Gives (λ entry. (entry, from.new)) result (bump_at from.old) }
 {
@@ -143,6 +146,7 @@ fn read_bump(alloc: Global, from: &mut Reader<'_>) -> Result<Entry, FieldFault>
 }
 
 #[tactic(auto, unfolding(crate::specs::BodyReading::commit_at, crate::specs::BodyReading::spans_at))]
+#[inline]
 fn read_commit(alloc: Global, from: &mut Reader<'_>) -> Result<Entry, FieldFault>
     ensures { Gives (λ entry. (entry, from.new)) result (commit_at from.old) }
 {
