@@ -1,5 +1,5 @@
 -- What a log that was just opened says of its disk, where the disk told its file.
-use Rattle.std.proofs.Common.{◌≡◌, inl, inr, ℕ, List, Option, Some}
+use Rattle.std.proofs.Common.{◌≡◌, inr, ℕ, List, Option, Some}
 use Rattle.cw_log.specs.Log.{StandsFor, StandAlike}
 use Rattle.connect.specs.Harms.{HoldsAlike}
 

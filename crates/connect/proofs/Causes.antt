@@ -1,12 +1,10 @@
 -- Causes of a log that was not opened, and steps that only read it.
-use Rattle.std.proofs.Common.{◌≡◌, ℕ, List, length, replicate, ◌∙◌, ap, arith, length-append}
-use Rattle.std.proofs.lemmas.List.{length-replicate}
+use Rattle.std.proofs.Common.{ℕ, ◌∙◌}
 use Rattle.cw_log.specs.declared.fault.Harm.{Harm}
 use Rattle.cw_log.specs.declared.fault.OpenCause.{OpenCause}
 use Rattle.cw_log.specs.declared.fault.OpenCause.TheVariants.{Damaged, Failed, Memory}
 use Rattle.cw_log.specs.Log.{OnCause}
 use Rattle.cw_log.specs.State.{LogState, HasSameList}
-use Rattle.connect.specs.declared.opening.Reading.{Reading}
 use Rattle.connect.specs.declared.opening.OpeningCause.{OpeningCause}
 use Rattle.connect.specs.declared.opening.OpeningCause.TheVariants as causes
 use Rattle.connect.specs.Harms.{OnOpeningCause}

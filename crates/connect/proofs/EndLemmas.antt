@@ -1,5 +1,5 @@
 -- How a step of a session goes on from the steps before it, and how it ends.
-use Rattle.std.proofs.Common.{◌≡◌, ◌⊎◌, ⊎_elim, inl, inr, ℕ, ◌+◌, ◌<◌, ◌≤◌, List, [], ◌∷◌, ◌++◌, length, take, Bool, true, false, Option, Some, None, Result, Ok, Err, refl, sym, ap, subst, ◌∙◌, arith, append_assoc, add-zero}
+use Rattle.std.proofs.Common.{◌≡◌, ⊎_elim, inl, inr, ℕ, ◌+◌, ◌<◌, List, [], ◌∷◌, ◌++◌, length, take, true, false, None, refl, sym, ap, subst, ◌∙◌, arith, append_assoc}
 use Rattle.std.proofs.lemmas.List.{append-nil}
 use Rattle.cw_disk.specs.Disk.{Adds}
 use Rattle.cw_disk.proofs.Moments.{adds_none, adds_weaker, adds_then}
@@ -11,9 +11,9 @@ use Rattle.connect.specs.Lines.{lines_of, is_line}
 use Rattle.connect.specs.Run.{Played, passed, stopped, with_front, play_line, play}
 use Rattle.connect.specs.Statuses.{is_own}
 use Rattle.connect.specs.Store.{Store, Kept, IsImage, store_of}
-use Rattle.connect.specs.Players.{PlayerState, IsTold, IsAt, LeavesEither, HasPlayed, HasEnded, HasWanted, HasNotSaid, HasFailed, HasStopped, Steps}
+use Rattle.connect.specs.Players.{PlayerState, IsTold, IsAt, LeavesEither, HasPlayed, HasStopped, Steps}
 use Rattle.connect.specs.Players.HasStopped.{ended, wanted, not_said, failed}
-use Rattle.connect.specs.Sessions.{IsPrefix, resumed, resumed_by, Goes, IsBehind, Moves, EndsOwn, EndsCut, EndsBroken, Ends, HasRisen, Stops}
+use Rattle.connect.specs.Sessions.{IsPrefix, resumed, resumed_by, Goes, IsBehind, Moves, Ends, HasRisen, Stops}
 use Rattle.connect.specs.Sessions.Ends.{own, cut, broken}
 use Rattle.connect.proofs.LineLemmas.{lines_of-line}
 use Rattle.connect.proofs.PlayLemmas.{with_front-twice, play-line, play-some, play-first, play-steps, play_one-store, goes_on-None}

@@ -1,10 +1,10 @@
 -- The first place where a list breaks a fact is one.
-use Rattle.std.proofs.Common.{◌≡◌, ◌≤◌, ◌<◌, ◌⊎◌, inl, inr, ⊎_elim, ℕ, ◌+◌, ◌-◌, List, [], ◌∷◌, ◌++◌, length, refl, sym, ◌∙◌, ap, subst, arith, append_assoc}
+use Rattle.std.proofs.Common.{◌≡◌, ◌⊎◌, inl, inr, ℕ, List, [], ◌∷◌, ◌++◌, length, refl, sym, ◌∙◌, ap, subst, append_assoc}
 use Rattle.std.specs.List.{AllByRecursion}
 use Rattle.std.proofs.lemmas.List.{append-nil}
 use Rattle.cw_types.specs.declared.ids.PartKey.{PartKey}
 use Rattle.cw_txn.specs.declared.entry.Entry.{Entry}
-use Rattle.cw_txn.specs.Legal.{EachFrom, Each, Chains, ChainsBehind}
+use Rattle.cw_txn.specs.Legal.{EachFrom, Chains, ChainsBehind}
 use Rattle.cw_txn.specs.Allowed.{IsAllowedBehind, AreAllowed, IsFirstNotAllowed, IsFirstUnchained}
 
 -- two splits of a list are one, or one lies behind the other's element

@@ -1,5 +1,5 @@
 -- A file of a transaction log is opened in one way: it stands for one list, or has one harm.
-use Rattle.std.proofs.Common.{◌≡◌, ◌≤◌, ◌<◌, inl, inr, ℕ, ◌+◌, ◌-◌, List, [], ◌∷◌, ◌++◌, length, map, Some, refl, sym, ◌∙◌, ap, subst, arith}
+use Rattle.std.proofs.Common.{◌≡◌, ◌≤◌, ◌<◌, inl, inr, ℕ, ◌-◌, List, [], ◌∷◌, ◌++◌, length, map, Some, refl, sym, ◌∙◌, ap, subst, arith}
 use Rattle.std.specs.List.{AllByRecursion}
 use Rattle.cw_log.specs.declared.fault.Harm.{Harm}
 use Rattle.cw_log.specs.declared.fault.Harm.TheVariants.{Magic, Version, Kind, Header, SameSide, Length, Content, Unsafe}
@@ -8,7 +8,7 @@ use Rattle.cw_log.proofs.OneReading.{stands_for_one, sound, one_harm}
 use Rattle.cw_txn.specs.declared.entry.Entry.{Entry}
 use Rattle.cw_txn.specs.Body.{AreEntries, entries_bytes}
 use Rattle.cw_txn.specs.BodyReading.{body_at}
-use Rattle.cw_txn.specs.Allowed.{AreAllowed, IsFirstNotAllowed, IsFirstUnchained}
+use Rattle.cw_txn.specs.Allowed.{IsFirstNotAllowed, IsFirstUnchained}
 use Rattle.cw_txn.proofs.Bodies.{body_again}
 use Rattle.connect.specs.Store.{Store, Hold, IsImage, IsSafe}
 use Rattle.connect.specs.Harms.{gate_behind, IsReadable, HasUnreadable, IsGateOf, HasNotAllowed, HasUnchained, HasBodyHarm, IsHarmed}

@@ -1,5 +1,5 @@
 -- How a script is played line by line.
-use Rattle.std.proofs.Common.{◌≡◌, ◌⊎◌, inl, inr, ℕ, ◌+◌, ◌<◌, ◌≤◌, List, [], ◌∷◌, ◌++◌, length, take, nat_lt, Bool, true, false, cond, Option, Some, None, Result, Ok, Err, OnOk, IfErr, refl, sym, ap, subst, ◌∙◌, arith, append_assoc, length-append, add-one}
+use Rattle.std.proofs.Common.{◌≡◌, ℕ, ◌+◌, ◌<◌, ◌≤◌, List, [], ◌∷◌, ◌++◌, length, take, nat_lt, Bool, true, false, cond, Option, Some, None, Result, refl, sym, ap, subst, ◌∙◌, arith, append_assoc, length-append, add-one}
 use Rattle.std.proofs.lemmas.List.{append-nil}
 use Rattle.std.proofs.lemmas.Bool.Decides.{nat_tests}
 use Rattle.connect.specs.declared.status.Status.{Status}
@@ -10,7 +10,7 @@ use Rattle.cw_script.specs.Lines.{line_of}
 use Rattle.connect.specs.Lines.{lines_of, is_line}
 use Rattle.connect.specs.Run.{Played, passed, stopped, with_front, goes_on, behind, within_limits, play_reading, play_line, play_last, play}
 use Rattle.connect.specs.Store.{Store}
-use Rattle.connect.proofs.LineLemmas.{lines_of-line, lines_of-alone, is_line-append, begins_any, begins}
+use Rattle.connect.proofs.LineLemmas.{lines_of-alone, is_line-append, begins_any, begins}
 
 -- a whole line, and then what is behind it
 pub play-line : (ended : Bool) (number : ℕ) (l more : List ℕ) (store : Store)

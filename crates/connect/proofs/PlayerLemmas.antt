@@ -1,5 +1,5 @@
 -- What an event of the transactions is to the line that asks for it.
-use Rattle.std.proofs.Common.{◌≡◌, ◌⊎◌, ⊎_elim, inl, inr, ◌≤◌, ℕ, List, [], ◌∷◌, ◌++◌, Bool, true, false, is_some, cond, Option, Some, None, Result, Ok, Err, refl, sym, ap, subst, ◌∙◌, arith}
+use Rattle.std.proofs.Common.{◌≡◌, ◌⊎◌, ⊎_elim, inl, inr, ◌≤◌, ℕ, List, [], ◌∷◌, ◌++◌, true, false, is_some, cond, Option, Some, None, Result, Ok, Err, refl, sym, ap, subst, ◌∙◌, arith}
 use Rattle.cw_disk.specs.Disk.{Adds}
 use Rattle.cw_disk.proofs.Moments.{adds_none, adds_weaker}
 use Rattle.cw_types.specs.declared.logs.LogName.TheVariants.{Txn}
@@ -11,7 +11,7 @@ use Rattle.connect.specs.declared.transactions.EventFault.{EventFault}
 use Rattle.connect.specs.declared.transactions.EventFault.TheVariants.{StoreFault, Full, Memory}
 use Rattle.connect.specs.Answers.{answer_text}
 use Rattle.connect.specs.Events.{Happens, IsLeft, IsBetween, HasHappened}
-use Rattle.connect.specs.Players.{PlayerState, IsTold, IsAt, LeavesEither, HasPlayed, HasDone, HasStopped, Steps}
+use Rattle.connect.specs.Players.{PlayerState, HasPlayed, HasStopped, Steps}
 use Rattle.connect.specs.Players.HasStopped.{ended, wanted, not_said, failed}
 use Rattle.connect.specs.Run.{Played, event, play_event}
 use Rattle.connect.specs.Statuses.{status_of_event}

@@ -21,7 +21,7 @@ use Rattle.connect.specs.declared.status.Status.{Status}
 use Rattle.connect.specs.declared.status.Status.TheVariants.{Full}
 use Rattle.connect.specs.Cuts.{committing, is_bad_cut, span_of}
 use Rattle.connect.specs.Lines.{lines_of}
-use Rattle.connect.specs.Run.{Played, passed, goes_on, within_limits, commit_entry, event, cut_answer, done_answer, answer_of, play_answer, play_reading, play_line, play_last, play, behind_lines}
+use Rattle.connect.specs.Run.{Played, passed, goes_on, within_limits, commit_entry, cut_answer, answer_of, play_answer, play_reading, play_line, play_last, play, behind_lines}
 use Rattle.connect.specs.Store.{Store, IsSafe, has_room, frame_of, with_entry}
 use Rattle.connect.proofs.EventLemmas.{safe_bump, safe_commit}
 use Rattle.connect.proofs.Numbering.{next_of_script}

@@ -1,5 +1,5 @@
 -- How a session goes through a piece of a script, line by line.
-use Rattle.std.proofs.Common.{◌≡◌, ℕ, ◌+◌, ◌<◌, ◌≤◌, List, [], ◌∷◌, ◌++◌, length, take, ⊎_elim, Bool, true, false, Option, Some, None, Result, Ok, Err, OnOk, IfErr, refl, sym, ap, subst, ◌∙◌, arith, append_assoc, length-append}
+use Rattle.std.proofs.Common.{◌≡◌, ℕ, ◌+◌, ◌<◌, List, [], ◌∷◌, ◌++◌, length, take, ⊎_elim, true, false, Result, Ok, Err, OnOk, IfErr, refl, sym, ap, subst, ◌∙◌, arith, append_assoc}
 use Rattle.std.proofs.lemmas.List.{append-nil}
 use Rattle.cw_disk.specs.Disk.{Adds}
 use Rattle.cw_disk.proofs.Moments.{adds_none, adds_weaker}
@@ -9,8 +9,8 @@ use Rattle.connect.specs.declared.status.Status.{Status}
 use Rattle.connect.specs.Lines.{lines_of, is_line}
 use Rattle.connect.specs.Run.{Played, with_front, play_line, play}
 use Rattle.connect.specs.Store.{Store, Kept, IsImage, store_of}
-use Rattle.connect.specs.Players.{PlayerState, IsTold, IsAt, HasPlayed, HasDone, HasStopped, Steps}
-use Rattle.connect.specs.Sessions.{resumed, resumed_by, Goes, IsBehind, Moves, MovesLast, Stops, Finishes}
+use Rattle.connect.specs.Players.{PlayerState, IsAt, HasPlayed, HasDone, HasStopped, Steps}
+use Rattle.connect.specs.Sessions.{resumed_by, Goes, IsBehind, Moves, MovesLast, Stops, Finishes}
 use Rattle.connect.proofs.LineLemmas.{lines_of-line, begins_any}
 use Rattle.connect.proofs.PlayLemmas.{play-alone, play-nothing, lines_of-last, play_one-store}
 use Rattle.connect.proofs.EndLemmas.{goes_none, goes_then, moves_none, moves_then, moves_line, stops_then, stops_line}

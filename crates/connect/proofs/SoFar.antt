@@ -1,10 +1,9 @@
 -- A drive so far: what was read and written, and what the session has still to play.
-use Rattle.std.proofs.Common.{◌≡◌, ◌⊎◌, ⊎_elim, inl, inr, ◌≤◌, ℕ, ◌+◌, List, [], ◌∷◌, ◌++◌, length, take, Bool, true, false, Option, Some, None, Result, Ok, Err, OnOk, IfErr, option_map, refl, sym, ap, subst, ◌∙◌, arith, append_assoc}
+use Rattle.std.proofs.Common.{◌≡◌, ⊎_elim, inl, inr, ◌≤◌, ℕ, ◌+◌, List, [], ◌∷◌, ◌++◌, length, take, Bool, true, false, Option, Some, None, option_map, refl, sym, ap, subst, ◌∙◌, arith, append_assoc}
 use Rattle.std.proofs.lemmas.List.{append-nil, take_all}
 use Rattle.std.proofs.lemmas.Grind.{common_steps}
 use Rattle.cw_disk.specs.Disk.{Adds}
 use Rattle.cw_disk.proofs.Moments.{adds_weaker, adds_then}
-use Rattle.cw_io.specs.Written.{IsWrittenInPart}
 use Rattle.cw_types.specs.Faults.{Rose}
 use Rattle.cw_types.specs.declared.logs.DiskName.TheVariants.{Txn}
 use Rattle.cw_disk.specs.declared.device.Disk.{Ghosts}
@@ -15,12 +14,12 @@ use Rattle.connect.specs.Lines.{lines_of}
 use Rattle.connect.specs.Run.{Played, passed, with_front, play, run, run_so_far, behind_lines}
 use Rattle.connect.specs.Statuses.{is_own}
 use Rattle.connect.specs.Store.{Store, Kept, IsImage, store_of}
-use Rattle.connect.specs.Outcomes.{Plays, PlaysPart, PlaysUpTo, IsDue, Drives}
-use Rattle.connect.specs.Sessions.{IsPrefix, resumed, resumed_by, Goes, IsBehind, Moves, MovesLast, EndsOwn, EndsCut, EndsBroken, Ends, HasRisen, Stops, Finishes, IsFresh}
+use Rattle.connect.specs.Outcomes.{Plays, PlaysPart, IsDue, Drives}
+use Rattle.connect.specs.Sessions.{IsPrefix, resumed, resumed_by, Goes, IsBehind, Moves, MovesLast, Ends, HasRisen, Stops, IsFresh}
 use Rattle.connect.specs.Sessions.Ends.{own, cut, broken}
-use Rattle.connect.specs.Drives.{Writes, PlaysPiece, EndsInPiece, EndsDone, EndsLast, EndsAtEnd, Caused}
+use Rattle.connect.specs.Drives.{Writes, PlaysPiece, EndsInPiece, EndsDone, EndsAtEnd, Caused}
 use Rattle.connect.specs.Players.{PlayerState, IsTold, IsAt, LeavesEither}
-use Rattle.connect.proofs.PlayLemmas.{with_front-twice, play-begun}
+use Rattle.connect.proofs.PlayLemmas.{play-begun}
 use Rattle.connect.proofs.EndLemmas.{prefix_then, prefix_same, ends_then, goes_none, goes_then, moves_none, moves_then, stops_then}
 
 pub writes_none : (o : Option (List ℕ)) → Writes [] o o

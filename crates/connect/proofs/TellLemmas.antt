@@ -1,5 +1,5 @@
 -- A step of a drive: what was played, and whether its answers were written.
-use Rattle.std.proofs.Common.{◌≡◌, ◌⊎◌, ⊎_elim, inl, inr, ◌≤◌, ℕ, ◌+◌, ◌-◌, ◌*◌, Vec, vec_len, List, [], ◌∷◌, ◌++◌, length, take, Bool, true, false, Option, Some, None, Result, Ok, Err, OnOk, OnErr, IfErr, option_map, refl, sym, ap, subst, ◌∙◌, arith}
+use Rattle.std.proofs.Common.{◌≡◌, ◌⊎◌, ⊎_elim, inl, inr, ℕ, ◌+◌, ◌-◌, ◌*◌, Vec, vec_len, List, [], ◌++◌, length, take, true, Option, Result, Ok, Err, OnOk, OnErr, IfErr, refl, sym, ap, subst, ◌∙◌, arith}
 use Rattle.std.proofs.lemmas.List.{append-nil}
 use Rattle.std.specs.declared.alloc.Global.{Global}
 use Rattle.cw_io.specs.Written.{IsWrittenInPart}
@@ -10,12 +10,11 @@ use Rattle.connect.specs.declared.status.Status.{Status}
 use Rattle.connect.specs.declared.status.Status.TheVariants.{Done, Usage, BadScript, TooLong, ReadFault, WriteFault, StoreFault, Damaged, Full, Memory}
 use Rattle.connect.specs.Lines.{lines_of}
 use Rattle.connect.specs.Run.{Played, passed, with_front, play}
-use Rattle.connect.specs.Store.{Store, Kept, store_of}
+use Rattle.connect.specs.Store.{Store, store_of}
 use Rattle.connect.specs.Players.{PlayerState, IsTold, IsAt, LeavesEither}
-use Rattle.connect.specs.Sessions.{IsPrefix, room, resumed, resumed_by, Goes, EndsCut, Ends, HasRisen, Stops, Finishes}
+use Rattle.connect.specs.Sessions.{IsPrefix, room, resumed, resumed_by, Goes, HasRisen, Stops, Finishes}
 use Rattle.connect.specs.Sessions.Ends.{cut}
-use Rattle.connect.specs.Drives.{Writes, HasForgotten, PlaysPiece, EndsInPiece, EndsDone, EndsLast, EndsAtEnd, after_tell}
-use Rattle.connect.proofs.PlayLemmas.{with_front-twice}
+use Rattle.connect.specs.Drives.{Writes, HasForgotten, PlaysPiece, EndsInPiece, EndsDone, EndsLast, after_tell}
 use Rattle.connect.proofs.EndLemmas.{prefix_then, prefix_same}
 use Rattle.connect.proofs.SoFar.{steps_all, ends_unwritten, ends_written, ends_both}
 

@@ -1,7 +1,7 @@
 -- What a run gave, from what its opening and its drive gave.
-use Rattle.std.proofs.Common.{◌≡◌, ◌⊎◌, ⊎_elim, inl, inr, ◌≤◌, ℕ, ◌+◌, List, [], ◌∷◌, ◌++◌, length, take, Bool, true, false, is_some, Option, Some, None, option_map, refl, sym, ap, subst, ◌∙◌, arith}
+use Rattle.std.proofs.Common.{◌≡◌, ◌⊎◌, inl, inr, ℕ, ◌+◌, List, [], ◌++◌, length, true, false, is_some, Option, Some, None, option_map, refl, sym, ap, subst, ◌∙◌}
 use Rattle.cw_disk.specs.Disk.{Adds}
-use Rattle.cw_disk.proofs.Moments.{adds_none, adds_weaker, adds_then}
+use Rattle.cw_disk.proofs.Moments.{adds_weaker, adds_then}
 use Rattle.cw_log.specs.Log.{StandAlike}
 use Rattle.cw_log.specs.declared.fault.Harm.{Harm}
 use Rattle.cw_types.specs.Faults.{Rose}
@@ -12,14 +12,13 @@ use Rattle.connect.specs.declared.opening.OpeningCause.TheVariants as causes
 use Rattle.connect.specs.declared.status.Status.{Status}
 use Rattle.connect.specs.declared.status.Status.TheVariants.{Done, Usage, BadScript, TooLong, ReadFault, WriteFault, StoreFault, Damaged, Full, Memory}
 use Rattle.connect.specs.Harms.{IsHarmed, OnOpeningCause}
-use Rattle.connect.specs.Lines.{lines_of}
-use Rattle.connect.specs.Outcomes.{Stand, StandEither, Plays, PlaysPart, PlaysUpTo, IsDue, Drives, IsRefusal, IsRefusedFor, IsNotOpened, IsOpened}
+use Rattle.connect.specs.Outcomes.{Stand, StandEither, Plays, PlaysPart, IsDue, Drives, IsRefusal, IsRefusedFor, IsNotOpened, IsOpened}
 use Rattle.connect.specs.Run.{Played, run, behind_lines, play}
 use Rattle.connect.specs.Drives.{Caused}
-use Rattle.connect.specs.Sessions.{IsPrefix, IsBehind, HasRisen}
+use Rattle.connect.specs.Sessions.{IsBehind, HasRisen}
 use Rattle.connect.specs.Statuses.{status_of_opening}
 use Rattle.connect.specs.Store.{Store, Kept, IsImage, IsSafe, store_of}
-use Rattle.connect.specs.Players.{IsTold, IsAt, LeavesEither}
+use Rattle.connect.specs.Players.{IsTold, IsAt}
 use Rattle.connect.proofs.OneOpening.{image_one, harmed_one, safe_is_harmless}
 use Rattle.connect.proofs.PlayerLemmas.{some_bodies}
 

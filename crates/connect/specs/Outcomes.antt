@@ -7,8 +7,6 @@ use Rattle.cw_disk.specs.declared.disks.Disks.{Disks}
 use Rattle.cw_disk.specs.Disk.{Adds}
 use Rattle.cw_log.specs.Log.{StandAlike}
 use Rattle.cw_log.specs.declared.fault.Harm.{Harm}
-use Rattle.cw_types.specs.Faults.{Rose}
-use Rattle.cw_types.specs.declared.logs.DiskName.{DiskName}
 use Rattle.cw_types.specs.declared.logs.DiskName.TheVariants.{Txn}
 use Rattle.connect.specs.declared.status.Status.{Status}
 use Rattle.connect.specs.declared.status.Status.TheVariants.{Done, Usage, BadScript, TooLong, ReadFault, WriteFault, StoreFault, Damaged, Full, Memory}

@@ -1,5 +1,5 @@
 -- What clauses see of a player: the transactions on their disk, and the text of the answers that it holds.
-use Rattle.std.specs.Prelude.{◌≡◌, ◌≤◌, ◌⊎◌, ℕ, List, [], ◌++◌, Bool, true, false, Some, None, Result, Ok, Err, is_some}
+use Rattle.std.specs.Prelude.{◌≡◌, ◌≤◌, ◌⊎◌, ℕ, List, [], ◌++◌, true, false, Some, None, Result, Ok, Err, is_some}
 use Rattle.cw_disk.specs.Disk.{Adds}
 use Rattle.cw_types.specs.Faults.{Rose}
 use Rattle.cw_types.specs.declared.logs.DiskName.TheVariants.{Txn}

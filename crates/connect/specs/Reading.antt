@@ -1,5 +1,5 @@
 -- What the reading of the bodies of a transaction log has found up to one of them. Internal: no public contract cites this.
-use Rattle.std.specs.Prelude.{◌≡◌, ◌<◌, ◌^◌, ◌+◌, ◌-◌, ◌++◌, ◌∷◌, [], min, ℕ, List, length, map, replicate, slice_index_or}
+use Rattle.std.specs.Prelude.{◌≡◌, ◌^◌, ◌+◌, ◌-◌, ◌++◌, ◌∷◌, [], min, ℕ, List, length, map, replicate, slice_index_or}
 use Rattle.std.specs.List.{flat_map, AllByRecursion}
 use Rattle.cw_log.specs.declared.fault.Harm.{Harm}
 use Rattle.cw_log.specs.declared.fault.Harm.TheVariants.{Magic, Version, Kind, Header, SameSide, Length, Content, Unsafe}

@@ -1,9 +1,8 @@
 -- The transactions of a cluster and the log that keeps them: which images of its disk stand for which list, and what an
 -- event that appends an entry does to both. The log's format is this project's own.
-use Rattle.std.specs.Prelude.{◌≡◌, ◌≤◌, ◌⊎◌, ◌+◌, ◌^◌, ◌++◌, ◌∷◌, [], ℕ, List, Bool, true, false, length, map, nat_le, Option, Some, Result, Ok, Err, is_some}
+use Rattle.std.specs.Prelude.{◌≡◌, ◌+◌, ◌^◌, ◌++◌, ◌∷◌, [], ℕ, List, Bool, length, map, nat_le, Some}
 use Rattle.std.specs.List.{flat_map, AllByRecursion}
 use Rattle.cw_types.specs.declared.ids.PartKey.{PartKey}
-use Rattle.cw_disk.specs.Disk.{Adds}
 use Rattle.cw_log.specs.Log.{StandsFor, length_of}
 use Rattle.cw_log.specs.State.{LogState}
 use Rattle.cw_txn.specs.declared.entry.Entry.{Entry}

@@ -11,4 +11,4 @@ mod rows;
 mod tests;
 
 pub use numbered::Numbered;
-pub use rows::{has_row, make_row, set_row, take_row, value_at};
+pub use rows::{has_row, make_row, set_row, value_at};

@@ -1,6 +1,5 @@
 //! The rows of a table.
-ghost use Rattle.std.specs.Prelude.{◌≡◌, OnOk, IfSome, IsSome, Some, None, unwrap_or, is_some, if◌then◌else◌, IsTrue, ◌↔◌};
-ghost use Rattle.std.specs.declared.cmp.Ordering.TheVariants.{Equal};
+ghost use Rattle.std.specs.Prelude.{◌≡◌, OnOk, IsSome, Some, None, unwrap_or, if◌then◌else◌, IsTrue, ◌↔◌};
 ghost use Rattle.std.specs.BTreeMap.{get, is_at, BTreeMap};
 
 use std::alloc::AllocError;
@@ -42,17 +41,5 @@ pub fn set_row<K: Ord, V: Copy>(table: &mut BTreeMap<K, V>, key: &K, value: V)
 {
     if let Some(place) = table.get_mut(key) {
         *place = value;
-    }
-}
-
-/// Takes a row out where there is one, and gives its key.
-pub fn take_row<K: Ord, V: Drop>(table: &mut BTreeMap<K, V>, key: &K) -> Option<K>
-    ensures key { IfSome result (λ k. K.cmp key.now k ≡ Equal) }
-    ensures there { is_some result ≡ is_some (get K.cmp table.old key.now) }
-    ensures taken { (q : K) → get K.cmp table.new q ≡ (if is_at (K.cmp key.now) q then None else get K.cmp table.old q) }
-{
-    match table.remove_entry(key) {
-        Some((key, _)) => Some(key),
-        None => None,
     }
 }

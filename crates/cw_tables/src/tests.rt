@@ -1,6 +1,6 @@
 //! Each call once with ample memory.
 
-use crate::{Numbered, has_row, hashed, make_row, set_row, take_row, value_at};
+use crate::{Numbered, has_row, hashed, make_row, set_row, value_at};
 use std::collections::{BTreeMap, HashMap};
 use std::test::Fail;
 
@@ -17,9 +17,6 @@ fn rows_read_as_missing_ones_until_they_are_set(rt: HostRuntime) -> Result<(), F
     set_row(&mut table, &7, 5);
     assert_eq!(rt; value_at(&table, &7, 3), 5);
     assert_eq!(rt; value_at(&table, &8, 3), 3);
-    assert_eq!(rt; take_row(&mut table, &7), Some(7));
-    assert_eq!(rt; take_row(&mut table, &7), None);
-    assert_eq!(rt; value_at(&table, &7, 3), 3);
     Ok(())
 }
 

@@ -8,7 +8,6 @@ use Rattle.std.specs.HashMap.{get, IsUnique}
 use Rattle.std.proofs.lemmas.Bool.Decides.{Decides-like}
 use Rattle.std.proofs.lemmas.Slice.Eq.{bytes_eq-Decides}
 use Rattle.std.proofs.lemmas.List.Elements.{All-from_recursion, recursion_from_All, All-contains, Contains-append_right}
-use Rattle.std.proofs.lemmas.Map.Keys.{IsDistinct-cons}
 use Rattle.cw_types.specs.declared.ids.PartKey.{PartKey}
 use Rattle.cw_types.specs.declared.ids.PartKey.TheVariants.{Raw, File, Seq, Sink}
 use Rattle.cw_txn.specs.declared.entry.Entry.{Entry}
@@ -19,7 +18,6 @@ use Rattle.cw_txn.specs.Transactions.{ArePartsOf}
 use Rattle.cw_txn.specs.PartRows.{part_row, history_at}
 use Rattle.cw_txn.specs.declared.parts.Parts.{Parts}
 use Rattle.cw_txn.specs.Tables.{is_of, parts_in}
-use Rattle.cw_txn.proofs.DistinctParts.{none_distinct}
 use Rattle.cw_types.proofs.SameLemmas.{part_eq_is, same_part-Decides}
 
 pub is_of-Decides : (connector : List ℕ) (part : PartKey) → Decides (is_of connector part) (connector_of part ≡ Some connector)

@@ -1,11 +1,11 @@
-use Rattle.std.proofs.Common.{◌≡◌, is_some, List, ℕ, sym, ap, ◌∙◌, subst}
+use Rattle.std.proofs.Common.{◌≡◌, is_some, sym, ap, ◌∙◌, subst}
 use Rattle.cw_disk.specs.Disk.{Adds}
 use Rattle.cw_types.specs.Faults.{Rose}
 use Rattle.connect.specs.Outcomes.{Drives, Stand, StandEither}
 use Rattle.connect.specs.Players.{PlayerState, IsTold, IsAt, LeavesEither}
 use Rattle.connect.specs.Run.{behind_lines}
 use Rattle.connect.specs.Sessions.{IsBehind}
-use Rattle.connect.specs.Store.{Store, Kept, store_of}
+use Rattle.connect.specs.Store.{Kept, store_of}
 use Rattle.connect.proofs.TopLemmas.{drives_left, rests}
 use Rattle.connect.proofs.drive.drive.Goals as goal
 

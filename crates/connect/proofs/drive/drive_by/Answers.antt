@@ -1,6 +1,5 @@
 use Rattle.std.proofs.Common.{◌≡◌, ◌≤◌, Ok, [], take, refl, ap, ◌∙◌, arith}
 use Rattle.cw_types.specs.Faults.{Rose}
-use Rattle.connect.specs.declared.status.Status.TheVariants.{ReadFault}
 use Rattle.connect.proofs.EndLemmas.{moves_none}
 use Rattle.connect.proofs.SoFar.{started, next, ended_in, last_in, read_failed, takes_same, last_caused, piece_caused, caused_wider, moments_so_far, moments_last}
 use Rattle.connect.proofs.drive.drive_by.Goals as goal

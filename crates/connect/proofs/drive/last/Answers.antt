@@ -1,4 +1,4 @@
-use Rattle.std.proofs.Common.{Result, Ok, Err, inl, inr, sym, ◌∙◌, subst}
+use Rattle.std.proofs.Common.{inl, inr, sym, subst}
 use Rattle.cw_types.specs.Faults.{Rose}
 use Rattle.connect.specs.declared.status.Status.TheVariants.{Done}
 use Rattle.connect.specs.Drives.{EndsDone, EndsLast}

@@ -1,4 +1,4 @@
-use Rattle.std.proofs.Common.{◌+◌, ◌≤◌, length, Result, Ok, Err, sym, ◌∙◌, subst, arith}
+use Rattle.std.proofs.Common.{◌+◌, ◌≤◌, length, sym, ◌∙◌, subst}
 use Rattle.cw_types.specs.Faults.{Rose}
 use Rattle.connect.specs.Drives.{PlaysPiece, EndsInPiece}
 use Rattle.connect.specs.Sessions.{Moves, room}

@@ -2,7 +2,6 @@ use Rattle.std.proofs.Common.{◌≡◌, ◌∙◌, List, ℕ, Some, sym, subst}
 use Rattle.std.proofs.lemmas.Result.{err_from_is_err_and}
 use Rattle.cw_types.specs.Faults.{Rose}
 use Rattle.cw_log.specs.declared.fault.Harm.TheVariants.{Content}
-use Rattle.cw_txn.specs.declared.entry.Entry.{Entry}
 use Rattle.connect.specs.Store.{Hold, IsSafe}
 use Rattle.connect.specs.Harms.{HasUnreadable, HasBodyHarm}
 use Rattle.connect.specs.Reading.{HasEntryHarm}

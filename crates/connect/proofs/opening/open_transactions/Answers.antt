@@ -5,7 +5,7 @@ use Rattle.cw_types.specs.Faults.{Rose}
 use Rattle.cw_log.specs.Log.{StandsFor, StandAlike, IsDamaged}
 use Rattle.connect.specs.Store.{Kept, IsImage, store_of}
 use Rattle.connect.specs.Harms.{HasBodyHarm, HoldsAlike, IsHarmed}
-use Rattle.connect.proofs.Alike.{StandsThrough, holds_alike}
+use Rattle.connect.proofs.Alike.{holds_alike}
 use Rattle.connect.proofs.Causes.{OnOpeningCause-of}
 use Rattle.connect.proofs.opening.open_transactions.Goals as goal
 

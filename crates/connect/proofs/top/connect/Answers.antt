@@ -1,4 +1,3 @@
-use Rattle.std.proofs.Common.{◌≡◌}
 use Rattle.connect.proofs.OneOpening.{safe_is_harmless}
 use Rattle.connect.proofs.Safety.{lines_are_safe}
 use Rattle.connect.proofs.TopLemmas.{refused_for, done_or_memory}

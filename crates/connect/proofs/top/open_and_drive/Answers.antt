@@ -1,4 +1,4 @@
-use Rattle.std.proofs.Common.{◌≡◌, ◌⊎◌, ℕ, List, Some, inr, sym, ◌∙◌}
+use Rattle.std.proofs.Common.{◌≡◌, ℕ, List, Some, inr, sym, ◌∙◌}
 use Rattle.cw_types.specs.Faults.{Rose}
 use Rattle.connect.specs.Harms.{IsHarmed, HoldsAlike}
 use Rattle.connect.proofs.TopLemmas.{opened, refused_damaged}

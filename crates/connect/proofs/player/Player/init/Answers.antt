@@ -1,4 +1,4 @@
-use Rattle.std.proofs.Common.{◌+◌, List, ℕ, string_bytes, subst}
+use Rattle.std.proofs.Common.{◌+◌, string_bytes, subst}
 use Rattle.std.proofs.lemmas.Result.{err_from_is_err_and}
 use Rattle.cw_types.specs.declared.ids.Tid.TheVariants.{Raw}
 use Rattle.cw_txn.specs.declared.entry.Entry.TheVariants.{Bump}

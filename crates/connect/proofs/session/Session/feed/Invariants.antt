@@ -1,4 +1,4 @@
-use Rattle.std.proofs.Common.{◌≡◌, ◌+◌, ◌≤◌, ℕ, length}
+use Rattle.std.proofs.Common.{◌+◌, ◌≤◌, length}
 use Rattle.connect.specs.Sessions.{room}
 use Rattle.connect.proofs.SessionLemmas.{IsFed}
 use Rattle.connect.proofs.session.Session.feed.Given as goal

@@ -1,4 +1,4 @@
-use Rattle.std.proofs.Common.{◌≡◌, ◌+◌, ◌<◌, [], length, arith, subst, List, ℕ, Result, Ok, Err, OnOk, IfErr}
+use Rattle.std.proofs.Common.{◌≡◌, ◌+◌, ◌<◌, [], length, arith, subst, List, ℕ}
 use Rattle.std.proofs.lemmas.Grind.{common_steps}
 use Rattle.connect.specs.Players.{HasDone, Steps}
 use Rattle.connect.specs.Run.{play_line}
