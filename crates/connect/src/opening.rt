@@ -201,7 +201,7 @@ fn take_entries(replay: &mut Replay, body: &[u8], at: u64) -> Result<(), OpenCau
 fn coordinator_of_entries(replay: Replay) -> Result<Coordinator, OpenCause>
     ensures entries { IfOk result (λ c. c.entries ≡ replay.entries) }
     ensures safe { OnOk result (IsSafe replay.entries) }
-    ensures fault { IfErr result (OnCause (HasEntryHarm replay.entries replay.gates) ⊥ ⊥) }
+    ensures fault { IfErr result (OnCause (HasEntryHarm replay.entries replay.gates) ⊥ ⊤) }
 {
     match replay.into_coordinator() {
         Ok(coordinator) => Ok(coordinator),
@@ -213,6 +213,7 @@ fn coordinator_of_entries(replay: Replay) -> Result<Coordinator, OpenCause>
             at,
             harm: Harm::Unsafe,
         }),
+        Err(ListFault::Memory) => Err(OpenCause::Memory),
     }
 }
 

@@ -12,5 +12,6 @@ pub mod Written
 pub mod AllowedLemmas
 pub mod SpanTests
 pub mod WalkLemmas
+pub mod QueueLemmas
 pub mod Noted
 pub mod Mapped

@@ -9,7 +9,7 @@ use Rattle.cw_txn.specs.BodyReading.{entry_at, body_at}
 use Rattle.cw_txn.specs.Replayed.{Replayed, TakesBody}
 use Rattle.cw_txn.specs.declared.entry.Entry.{Entry}
 use Rattle.cw_txn.specs.declared.tables.Tables.{Tables}
-use Rattle.cw_txn.specs.declared.replay.Walk.{Walk}
+use Rattle.cw_txn.specs.declared.walk.Walk.{Walk}
 use Rattle.cw_txn.specs.Legal.{Chains, ChainsBehind}
 use Rattle.cw_txn.specs.Allowed.{IsAllowedBehind, AreAllowed, IsFirstNotAllowed, IsFirstUnchained}
 use Rattle.cw_txn.specs.Tables.{Keeps, IsCoordinator}
@@ -115,27 +115,6 @@ pub so_far : (not_allowed unchained : Option ℕ) (tables : Tables) (entries : L
 so_far None unchained tables entries gates none found = found
 so_far (Some first) unchained tables entries gates none found = absurd cc
 
--- one entry more than those taken
-pub took_more : (group : List Entry) (entry : Entry) (gate : ℕ) (old mid new : Walk) → Took group gate old mid → Took (entry ∷ []) gate mid new → Took (group ++ entry ∷ []) gate old new
-took_more group entry gate old mid new took one = record {
-  entries = one.entries ∙ ap (λ (l : List Entry). l ++ entry ∷ []) took.entries ∙ append_assoc old.entries.items group (entry ∷ []);
-  gates = one.gates ∙ ap (λ (l : List ℕ). l ++ gate ∷ []) took.gates ∙ append_assoc old.gates.items (replicate (length group) gate) (gate ∷ [])
-      ∙ ap (λ (l : List ℕ). old.gates.items ++ l) (replicate_more (length group) gate ∙ ap (λ (n : ℕ). replicate n gate) (simp length-append));
-  walked = one.walked;
-}
-
--- of so many entries these were taken, and others are still read
-pub record TakesMany (group : List Entry) (gate count i : ℕ) (first from : Unread) (old walk : Walk) : Type 0 where
-  pub reads : with_front entry_at group (many_at entry_at (count - i) from) ≡ many_at entry_at count first
-  pub took : Took group gate old walk
-
--- a body's entries were taken
-pub takes_body : (body : List ℕ) (gate : ℕ) (group : List Entry) (old new : Walk) → AreBytes body → body_at body ≡ Some group → Took group gate old new
-    → TakesBody body gate (record { entries = old.entries.items; gates = old.gates.items }) (record { entries = new.entries.items; gates = new.gates.items })
-takes_body body gate group old new fits read took =
-    let is = body_takes body group fits read in
-    record { group = group; are = is.0; spelled = is.1; entries = took.entries; gates = took.gates }
-
 -- what a walk found, by cases
 module _ (tables : Tables) (entries : List Entry) (gates : List ℕ) where
   found_not_allowed : (not_allowed unchained : Option ℕ) (gate : ℕ) → Found not_allowed tables entries gates unchained → not_allowed ≡ Some gate
@@ -149,17 +128,15 @@ module _ (tables : Tables) (entries : List Entry) (gates : List ℕ) where
   found_unchained None (Some first) gate found allowed is = let same : first ≡ gate = cc in (found.allowed, subst (HasGate (IsFirstUnchained entries) gates) same found.chained)
   found_unchained (Some other) unchained gate found allowed is = absurd cc
 
--- what the faults of a replay say of its meaning
-module _ (walk : Walk) (was : Replayed) (walked : Walked walk) (is : record { entries = walk.entries.items; gates = walk.gates.items } ≡ was) where
-  pub names_not_allowed : (gate : ℕ) → walk.not_allowed ≡ Some gate → (place : ℕ) × IsFirstNotAllowed was.entries place × (slice_index_or was.gates place gate ≡ gate)
-  names_not_allowed gate found = subst (λ (r : Replayed). HasGate (IsFirstNotAllowed r.entries) r.gates gate) is
-      (found_not_allowed walk.tables walk.entries.items walk.gates.items walk.not_allowed walk.unchained gate walked.found found)
+-- what the faults of a walk say of its entries
+module _ (walk : Walk) (walked : Walked walk) where
+  pub names_not_allowed : (gate : ℕ) → walk.not_allowed ≡ Some gate → HasGate (IsFirstNotAllowed walk.entries.items) walk.gates.items gate
+  names_not_allowed gate found = found_not_allowed walk.tables walk.entries.items walk.gates.items walk.not_allowed walk.unchained gate walked.found found
 
   pub names_unchained : (gate : ℕ) → walk.not_allowed ≡ None → walk.unchained ≡ Some gate
-      → (place : ℕ) × AreAllowed was.entries × IsFirstUnchained was.entries place × (slice_index_or was.gates place gate ≡ gate)
+      → (place : ℕ) × AreAllowed walk.entries.items × IsFirstUnchained walk.entries.items place × (slice_index_or walk.gates.items place gate ≡ gate)
   names_unchained gate allowed found =
-      let (each, (place, first, at)) = subst (λ (r : Replayed). AreAllowed r.entries × HasGate (IsFirstUnchained r.entries) r.gates gate) is
-      (found_unchained walk.tables walk.entries.items walk.gates.items walk.not_allowed walk.unchained gate walked.found allowed found) in
+      let (each, (place, first, at)) = found_unchained walk.tables walk.entries.items walk.gates.items walk.not_allowed walk.unchained gate walked.found allowed found in
       (place, each, first, at)
 
 -- a walk that found no fault is a coordinator's

@@ -11,3 +11,4 @@ pub mod Body
 pub mod BodyReading
 pub mod Replayed
 pub mod Walk
+pub mod Queue

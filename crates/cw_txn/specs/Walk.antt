@@ -9,8 +9,8 @@ use Rattle.cw_txn.specs.declared.entry.SetOffset.{SetOffset}
 use Rattle.cw_txn.specs.declared.parts.Parts.{Parts}
 use Rattle.cw_txn.specs.declared.tables.Tables.{Tables}
 use Rattle.cw_txn.specs.declared.replay.ListFault.{ListFault}
-use Rattle.cw_txn.specs.declared.replay.ListFault.TheVariants.{NotAllowed, Unchained}
-use Rattle.cw_txn.specs.declared.replay.Walk.{Walk}
+use Rattle.cw_txn.specs.declared.replay.ListFault.TheVariants.{NotAllowed, Unchained, Memory}
+use Rattle.cw_txn.specs.declared.walk.Walk.{Walk}
 use Rattle.cw_types.specs.Same.{same_part, part_eq}
 use Rattle.cw_txn.specs.History.{SpansChain}
 use Rattle.cw_txn.specs.Legal.{Chains, ChainsBehind}
@@ -19,9 +19,10 @@ use Rattle.cw_txn.specs.Tables.{Keeps}
 use Rattle.cw_txn.specs.PartRows.{history_at}
 
 -- what each fault of a list says, by the gate of an entry
-abbrev pub OnListFault : (not_allowed unchained : ℕ → Type 0) → ListFault → Type 0
-OnListFault not_allowed unchained (NotAllowed gate) = not_allowed gate
-OnListFault not_allowed unchained (Unchained gate) = unchained gate
+abbrev pub OnListFault : (not_allowed unchained : ℕ → Type 0) → (memory : Type 0) → ListFault → Type 0
+OnListFault not_allowed unchained memory (NotAllowed gate) = not_allowed gate
+OnListFault not_allowed unchained memory (Unchained gate) = unchained gate
+OnListFault not_allowed unchained memory Memory = memory
 
 -- the gate of the entry at a place of which this holds
 abbrev pub HasGate : (ℕ → Type 0) → List ℕ → ℕ → Type 0

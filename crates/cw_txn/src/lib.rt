@@ -17,6 +17,7 @@ mod replay;
 mod tables;
 #[cfg(test)]
 mod tests;
+mod walk;
 
 pub use body::{BodyFault, read_entries, write_entries};
 pub use coordinator::{Coordinator, TxnFault, lists_stay_allowed, raw_transactions_are_new};

@@ -1,5 +1,5 @@
-//! One walk over the entries of a log, which fills the tables of a coordinator.
-ghost use Rattle.std.specs.Prelude.{◌≡◌, ◌≢◌, ◌↔◌, ◌<◌, ◌^◌, ◌++◌, ◌∷◌, [], ℕ, List, length, replicate, slice_index_or, Some, None, Err, IfOk, IfErr, OnOk, OnErr, MatchResult};
+//! The entries of a log, taken one body after the other.
+ghost use Rattle.std.specs.Prelude.{◌≡◌, ◌≢◌, ◌++◌, ◌∷◌, [], ℕ, List, map, slice_index_or, Some, None, Err, ⊤, IfOk, IfErr, OnOk, OnErr, MatchResult};
 ghost use Rattle.cw_bytes.specs.Reading.{Gives, many_at};
 ghost use Rattle.cw_types.specs.declared.ids.PartKey.{PartKey};
 ghost use Rattle.cw_txn.specs.declared.entry.Entry.{Entry};
@@ -8,18 +8,22 @@ ghost use Rattle.cw_txn.specs.Legal.{Chains};
 ghost use Rattle.cw_txn.specs.Allowed.{AreAllowed, IsFirstNotAllowed, IsFirstUnchained};
 ghost use Rattle.cw_txn.specs.Body.{AreEntries, entries_bytes};
 ghost use Rattle.cw_txn.specs.BodyReading.{entry_at, entries_at, body_at};
-ghost use Rattle.cw_txn.specs.Walk.{OnListFault, ChainsUpTo, IsChainTest, Found, Walked, Took};
+ghost use Rattle.cw_txn.specs.Walk.{OnListFault, Walked};
+ghost use Rattle.cw_txn.specs.Queue.{Queued, Settled, TookAll};
 ghost use Rattle.cw_txn.specs.Replayed.{TakesBody};
 
-use crate::allowed::is_allowed;
 use crate::body::{BodyFault, read_count, read_entry};
-use crate::coordinator::{Coordinator, MOST_ENTRIES, coordinator_of};
+use crate::coordinator::Coordinator;
 use crate::entry::Entry;
-use crate::tables::Tables;
+use crate::walk::Walk;
 use cw_bytes::{FieldFault, Reader};
 use cw_types::Past;
 use std::alloc::{AllocError, Global};
 use std::marker::Model;
+
+// So many entries wait at most. They are taken one close behind the other, so that the processor looks for the rows of
+// some while it still waits for those of the ones before them.
+const MOST_WAITING: usize = 32;
 
 /// Why the entries of a log's bodies are none that a coordinator holds.
 #[derive(Clone, Copy, Debug, PartialEq, Eq, Drop)]
@@ -28,26 +32,41 @@ pub enum ListFault {
     NotAllowed(u64),
     /// The gate of the first entry of which a part's spans don't chain; all entries are allowed.
     Unchained(u64),
+    /// Want of memory.
+    Memory,
+}
+
+impl From<AllocError> for ListFault {
+    ghost use Rattle.std.specs.Prelude.{◌≡◌};
+    ghost use Rattle.cw_txn.specs.declared.replay.ListFault.TheVariants.{Memory};
+
+    ghost from_gives = { λ _ fault. fault ≡ Memory };
+
+    fn from(_: AllocError) -> Self {
+        ListFault::Memory
+    }
 }
 
 /// The entries of a log, taken one body after the other, for a coordinator of them. At run time it keeps
-/// only what follows from them, no entry.
+/// only what follows from them, and the last few.
 #[derive(Drop)]
 pub struct Replay {
     alloc: Global,
-    walk: Walk,
+    queue: Queue,
 }
 
-// The entries so far and the gate of each, which are ghost data, and what was found in them: their number, the gate of
-// the first that isn't allowed and of the first that doesn't chain, and the tables as long as all are allowed.
+// A walk, and the entries behind those that it took, which wait until it takes them.
 #[derive(Drop)]
-struct Walk {
-    tables: Tables,
-    entries: Past<Entry>,
-    gates: Past<u64>,
-    length: u64,
-    not_allowed: Option<u64>,
-    unchained: Option<u64>,
+struct Queue {
+    walk: Walk,
+    waiting: Vec<Waiting>,
+}
+
+// An entry that is read, and the gate of its frame.
+#[derive(Drop)]
+struct Waiting {
+    entry: Entry,
+    gate: u64,
 }
 
 impl Model for Replay {
@@ -56,10 +75,11 @@ impl Model for Replay {
     ghost Value = { Replayed };
 
     ghost use Rattle.cw_txn.specs.Walk.{Walked};
+    ghost use Rattle.cw_txn.specs.Queue.{queue_entries, queue_gates};
 
-    ghost view = { λ a. record { entries = a.walk.entries.items; gates = a.walk.gates.items } };
+    ghost view = { λ a. record { entries = queue_entries a.queue; gates = queue_gates a.queue } };
 
-    ghost invariant = { λ a. Walked a.walk };
+    ghost invariant = { λ a. Walked a.queue.walk };
 }
 
 impl Replay {
@@ -69,7 +89,7 @@ impl Replay {
     {
         Replay {
             alloc,
-            walk: Walk::new(alloc),
+            queue: Queue::new(alloc),
         }
     }
 
@@ -81,10 +101,10 @@ impl Replay {
         ensures refused { (entries : List Entry) → AreEntries entries → body.now ≡ entries_bytes entries → result ≢ Err BodyFault.NotEntries }
         ensures err { OnErr result (self.new ≡ record { entries = []; gates = [] }) }
     {
-        match self.walk.take_whole(self.alloc, body, gate) {
+        match self.queue.take_whole(self.alloc, body, gate) {
             Ok(_) => Ok(()),
             Err(fault) => {
-                self.walk = Walk::new(self.alloc);
+                self.queue = Queue::new(self.alloc);
                 Err(fault)
             }
         }
@@ -92,47 +112,32 @@ impl Replay {
 
     /// The coordinator of the entries, as it is after they were written one after the other. A fault names the gate of
     /// an entry: NotAllowed the first that may not stand where it does, else Unchained the first of which a part
-    /// doesn't chain.
+    /// doesn't chain. Memory comes for want of memory.
     pub fn into_coordinator(self) -> Result<Coordinator, ListFault>
         ensures entries { IfOk result (λ c. c ≡ record { entries = self.entries; reserved = [] }) }
         ensures allowed { OnOk result (AreAllowed self.entries) }
         ensures chains { OnOk result ((part : PartKey) → Chains part self.entries) }
         ensures fault { IfErr result (OnListFault
             (λ gate. (place : ℕ) × IsFirstNotAllowed self.entries place × (slice_index_or self.gates place gate ≡ gate))
-            (λ gate. (place : ℕ) × AreAllowed self.entries × IsFirstUnchained self.entries place × (slice_index_or self.gates place gate ≡ gate))) }
+            (λ gate. (place : ℕ) × AreAllowed self.entries × IsFirstUnchained self.entries place × (slice_index_or self.gates place gate ≡ gate))
+            ⊤) }
     {
-        let Replay { alloc, walk } = self;
-        let Walk {
-            tables,
-            entries,
-            length,
-            not_allowed,
-            unchained,
-            ..
-        } = walk;
-        if let Some(gate) = not_allowed {
-            return Err(ListFault::NotAllowed(gate));
-        }
-        if let Some(gate) = unchained {
-            return Err(ListFault::Unchained(gate));
-        }
-        Ok(coordinator_of(alloc, tables, entries, length))
+        let Replay { alloc, queue } = self;
+        let walk = queue.into_walk(alloc)?;
+        walk.into_coordinator(alloc)
     }
 }
 
-impl Walk {
-    fn new(alloc: Global) -> Walk
-        ensures entries { result.entries.items ≡ [] }
-        ensures gates { result.gates.items ≡ [] }
-        ensures walked { Walked result }
+impl Queue {
+    fn new(alloc: Global) -> Queue
+        ensures entries { result.walk.entries.items ≡ [] }
+        ensures gates { result.walk.gates.items ≡ [] }
+        ensures waiting { result.waiting.items ≡ [] }
+        ensures walked { Walked result.walk }
     {
-        Walk {
-            tables: Tables::new(alloc),
-            entries: Past::new(),
-            gates: Past::new(),
-            length: 0,
-            not_allowed: None,
-            unchained: None,
+        Queue {
+            walk: Walk::new(alloc),
+            waiting: Vec::new(alloc),
         }
     }
 
@@ -143,9 +148,9 @@ impl Walk {
         body: &[u8],
         gate: u64,
     ) -> Result<Past<Entry>, BodyFault>
-        requires { Walked self.old }
+        requires { Walked self.old.walk }
         ensures read { MatchResult result (λ group. body_at body.now ≡ Some group.items) (λ fault. fault ≢ BodyFault.Memory → body_at body.now ≡ None) }
-        ensures took { IfOk result (λ group. Took group.items gate self.old self.new) }
+        ensures queued { IfOk result (λ group. Queued group.items gate self.old self.new) }
     {
         let mut from = Reader::new(body);
         let group = self.take_all(alloc, gate, &mut from)?;
@@ -163,9 +168,9 @@ impl Walk {
         gate: u64,
         from: &mut Reader<'_>,
     ) -> Result<Past<Entry>, FieldFault>
-        requires { Walked self.old }
+        requires { Walked self.old.walk }
         ensures read { Gives (λ group. (group.items, from.new)) result (entries_at from.old) }
-        ensures took { IfOk result (λ group. Took group.items gate self.old self.new) }
+        ensures queued { IfOk result (λ group. Queued group.items gate self.old self.new) }
     {
         let count = read_count(from)?;
         self.take_many(alloc, count, gate, from)
@@ -179,68 +184,63 @@ impl Walk {
         gate: u64,
         from: &mut Reader<'_>,
     ) -> Result<Past<Entry>, FieldFault>
-        requires { Walked self.old }
+        requires { Walked self.old.walk }
         ensures read { Gives (λ group. (group.items, from.new)) result (many_at entry_at count from.old) }
-        ensures took { IfOk result (λ group. Took group.items gate self.old self.new) }
+        ensures queued { IfOk result (λ group. Queued group.items gate self.old self.new) }
     {
         let mut group = Past::new();
         for _ in 0..count {
             let entry = read_entry(alloc, from)?;
-            self.take(alloc, &entry, gate)?;
             group = group.and(&entry);
+            self.put(alloc, entry, gate)?;
         }
         Ok(group)
     }
 
-    // One entry more. Behind one that isn't allowed nothing else is looked for: no later fault comes before it.
-    fn take(&mut self, alloc: Global, entry: &Entry, gate: u64) -> Result<(), AllocError>
-        requires { Walked self.old }
-        ensures { OnOk result (Took (entry.now ∷ []) gate self.old self.new) }
+    // One entry more, which waits behind the others.
+    fn put(&mut self, alloc: Global, entry: Entry, gate: u64) -> Result<(), AllocError>
+        requires { Walked self.old.walk }
+        ensures { OnOk result (Queued (entry ∷ []) gate self.old self.new) }
     {
-        if self.length >= MOST_ENTRIES {
-            return Err(AllocError);
-        }
-        if self.not_allowed.is_some() {
-            self.lengthen(entry, gate);
-            return Ok(());
-        }
-        if !is_allowed(alloc, &self.tables, self.length as usize, entry)? {
-            self.not_allowed = Some(gate);
-            self.lengthen(entry, gate);
-            return Ok(());
-        }
-        let chains = self.tables.put(entry)?;
-        self.unchained = first_unchained(self.unchained, gate, chains);
-        self.lengthen(entry, gate);
+        self.make_room(alloc)?;
+        self.waiting.push(Waiting { entry, gate })?;
         Ok(())
     }
 
-    // The list is one entry longer, of which all is found.
-    fn lengthen(&mut self, entry: &Entry, gate: u64)
-        requires counted { self.old.length ≡ length self.old.entries.items }
-        requires few { self.old.length < 2 ^ 63 }
-        requires aligned { length self.old.gates.items ≡ length self.old.entries.items }
-        requires found { Found self.old.not_allowed self.old.tables (self.old.entries.items ++ entry.now ∷ []) (self.old.gates.items ++ gate ∷ []) self.old.unchained }
-        ensures { Took (entry.now ∷ []) gate self.old self.new }
+    // Takes those that wait where they are many.
+    fn make_room(&mut self, alloc: Global) -> Result<(), AllocError>
+        requires { Walked self.old.walk }
+        ensures { OnOk result (Queued [] 0 self.old self.new) }
     {
-        self.entries = self.entries.and(entry);
-        self.gates = self.gates.and(&gate);
-        self.length += 1;
+        if self.waiting.len() < MOST_WAITING {
+            return Ok(());
+        }
+        take_waiting(&mut self.walk, alloc, self.waiting.as_slice())?;
+        self.waiting.clear();
+        Ok(())
+    }
+
+    // The walk that has taken all.
+    fn into_walk(self, alloc: Global) -> Result<Walk, AllocError>
+        requires { Walked self.walk }
+        ensures { IfOk result (λ walk. Settled self walk) }
+    {
+        let Queue { walk, waiting } = self;
+        let mut walk = walk;
+        take_waiting(&mut walk, alloc, waiting.as_slice())?;
+        Ok(walk)
     }
 }
 
-// The gate of the first entry at which a part doesn't chain, with one entry more, at which every part does or one doesn't.
-fn first_unchained(unchained: Option<u64>, gate: u64, chains: bool) -> Option<u64>
-    ensures { (entries : List Entry) (gates : List ℕ) (entry : Entry) → length gates ≡ length entries → IsChainTest entries entry chains →
-        ChainsUpTo entries gates unchained → ChainsUpTo (entries ++ entry ∷ []) (gates ++ gate ∷ []) result }
+ghost use Rattle.cw_txn.specs.declared.replay.Waiting.{Waiting};
+
+// Takes these entries, one after the other.
+fn take_waiting(walk: &mut Walk, alloc: Global, waiting: &[Waiting]) -> Result<(), AllocError>
+    requires { Walked walk.old }
+    ensures { OnOk result (TookAll waiting.now walk.old walk.new) }
 {
-    match unchained {
-        Some(first) => Some(first),
-        None => {
-            if chains {
-                return None;
-            }
-            Some(gate)
-        }
+    for next in waiting {
+        walk.take(alloc, &next.entry, next.gate)?;
     }
+    Ok(())
 }

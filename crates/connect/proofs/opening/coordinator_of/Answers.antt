@@ -23,9 +23,9 @@ returns-in_err-coordinator-clause-fault g c =
     let p = err_from_is_err_and c.from_residual-in_err-coordinator.result c.from_residual-in_err-coordinator.ensures.1 in
     rw (p.1, p.2) (OnCause-weaker (HasEntryHarm c.in_ok-reading.reading.replay.entries c.in_ok-reading.reading.replay.gates)
     (λ at harm. (bodies : List (List ℕ)) → c.args.log.now.bodies ≡ Some bodies → HasBodyHarm bodies at harm)
-    ⊥ (Rose (g.D.Disk.count c.args.log.now.disk) (g.D.Disk.count c.read_bodies.new.log.disk)) ⊥ (Unit {0})
+    ⊥ (Rose (g.D.Disk.count c.args.log.now.disk) (g.D.Disk.count c.read_bodies.new.log.disk)) (Unit {0}) (Unit {0})
     (λ at harm found bodies told. body_harm bodies c.in_ok-reading.reading (c.in_ok-reading.ensures.list bodies told) at harm found)
-    (λ never. absurd never) (λ never. absurd never) c.in_err-coordinator.field-0.0 c.in_err-coordinator.ensures.fault)
+    (λ never. absurd never) (λ want. want) c.in_err-coordinator.field-0.0 c.in_err-coordinator.ensures.fault)
 
 pub returns-clause-kept : goal.returns-clause-kept
 returns-clause-kept g c = (

@@ -1,7 +1,7 @@
 use Rattle.std.proofs.Common.{subst}
 use Rattle.cw_txn.specs.Walk.{ChainsUpTo, IsChainTest}
 use Rattle.cw_txn.proofs.WalkLemmas.{still_chains, still_first, first_here}
-use Rattle.cw_txn.proofs.replay.first_unchained.Goals as goal
+use Rattle.cw_txn.proofs.walk.first_unchained.Goals as goal
 
 pub returns-in-Some : goal.returns-in-Some
 returns-in-Some c entries gates entry aligned test upto = still_first entries gates entry c.args.gate aligned c.in-Some.first (subst (ChainsUpTo entries gates) c.in-Some.is upto)

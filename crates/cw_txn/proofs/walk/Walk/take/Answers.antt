@@ -1,6 +1,6 @@
 use Rattle.std.proofs.Common.{◌≡◌, ◌∙◌, true, false, sym}
 use Rattle.cw_txn.proofs.WalkLemmas.{stays_found, so_far, not_allowed_here, walked_on}
-use Rattle.cw_txn.proofs.replay.Walk.take.Goals as goal
+use Rattle.cw_txn.proofs.walk.Walk.take.Goals as goal
 
 pub lengthen-requires-clause-found : goal.lengthen-requires-clause-found
 lengthen-requires-clause-found c =
