@@ -1,2 +1,5 @@
 pub mod RowLemmas
 pub mod Reached
+pub mod Places
+pub mod Placed
+pub mod Widened

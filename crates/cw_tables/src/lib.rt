@@ -7,6 +7,7 @@
 pub mod hashed;
 mod numbered;
 mod rows;
+mod sparse;
 #[cfg(test)]
 mod tests;
 

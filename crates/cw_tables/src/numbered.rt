@@ -1,19 +1,18 @@
 //! A table by numbers, most of which are small.
 ghost use Rattle.std.specs.Prelude.{◌≡◌, ℕ, nat_eq, OnOk, IsSome, Some, unwrap_or, if◌then◌else◌};
 
-use crate::hashed;
+use crate::sparse::Sparse;
 use std::alloc::{AllocError, Global};
-use std::collections::HashMap;
 
 // Numbers below it are places of a list.
 const LOW: u32 = 1 << 20;
 
 /// A table by numbers. Those below 2^20 are places of a list, which a look-up reads at once, and up to the greatest of
-/// which it takes memory; others have rows of a map.
+/// which it takes memory; others have rows of a table by hashes.
 #[derive(Drop)]
 pub struct Numbered<V> {
     low: Vec<V>,
-    high: HashMap<u32, V>,
+    high: Sparse<V>,
 }
 
 impl<V: Copy + Drop> Numbered<V> {
@@ -25,21 +24,23 @@ impl<V: Copy + Drop> Numbered<V> {
     {
         Numbered {
             low: Vec::new(alloc),
-            high: HashMap::new(alloc),
+            high: Sparse::new(alloc),
         }
     }
 
     /// The row of a number.
+    #[inline]
     pub fn get(&self, number: u32) -> Option<V>
         ensures { result ≡ numbered_row self.now number }
     {
         if number < LOW {
             return self.low.get(number as usize).copied();
         }
-        self.high.get(&number).copied()
+        self.high.get(number)
     }
 
     /// Sets a new value in a row that is there.
+    #[inline]
     pub fn set(&mut self, number: u32, value: V)
         requires { IsSome (numbered_row self.old number) }
         ensures { (q : ℕ) → numbered_row self.new q ≡ (if nat_eq number q then Some value else numbered_row self.old q) }
@@ -48,7 +49,7 @@ impl<V: Copy + Drop> Numbered<V> {
             self.low[number as usize] = value;
             return;
         }
-        hashed::set_row(&mut self.high, &number, value);
+        self.high.set(number, value);
     }
 
     /// Makes a row for a number, and may make others. Each reads as a missing one, so that the table reads as before.
@@ -60,10 +61,7 @@ impl<V: Copy + Drop> Numbered<V> {
         if number < LOW {
             return reach(&mut self.low, number, missing);
         }
-        if hashed::has_row(&self.high, &number) {
-            return Ok(());
-        }
-        hashed::make_row(&mut self.high, number, missing)
+        self.high.make(number, missing)
     }
 }
 

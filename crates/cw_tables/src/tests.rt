@@ -55,3 +55,40 @@ fn small_and_great_numbers_have_rows_of_one_table(rt: HostRuntime) -> Result<(),
     assert_eq!(rt; table.get(1_048_577), None);
     Ok(())
 }
+
+// Great numbers: consecutive ones, the last ones, spread ones, and ones whose home is the last. The inverse of the
+// hash's factor times a hash is the number with that hash.
+fn great(place: u32) -> u32 {
+    match place % 4 {
+        0 => (1 << 20) + place,
+        1 => u32::MAX - place / 4,
+        2 => place.wrapping_mul(0x9E37_79B1) | 1 << 31,
+        _ => (u32::MAX - place).wrapping_mul(0x0E8B_2F51),
+    }
+}
+
+#[test]
+fn great_numbers_keep_their_rows_while_the_table_grows(rt: HostRuntime) -> Result<(), Fail> {
+    let mut table: Numbered<u64> = Numbered::new(rt.alloc());
+    for place in 0..4000 {
+        let number = great(place);
+        assert_eq!(rt; table.get(number), None);
+        table.make(number, 3)?;
+        assert_eq!(rt; table.get(number), Some(3));
+        table.set(number, number as u64);
+    }
+    assert_eq!(rt; table.get(u32::MAX), Some(u32::MAX as u64));
+    for place in 0..4000 {
+        let number = great(place);
+        assert_eq!(rt; table.get(number), Some(number as u64));
+        table.make(number, 3)?;
+        assert_eq!(rt; table.get(number), Some(number as u64));
+        table.set(number, number as u64 + 1);
+    }
+    for place in 0..4000 {
+        let number = great(place);
+        assert_eq!(rt; table.get(number), Some(number as u64 + 1));
+        assert_eq!(rt; table.get((1 << 21) + place), None);
+    }
+    Ok(())
+}
