@@ -3,3 +3,4 @@ pub mod Reached
 pub mod Places
 pub mod Placed
 pub mod Widened
+pub mod LentLemmas

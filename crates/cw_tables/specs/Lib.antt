@@ -1,2 +1,5 @@
 pub mod Numbered
 pub mod Sparse
+pub mod Lent
+pub mod LentRow
+pub mod LentNumber

@@ -39,6 +39,22 @@ impl<V: Copy + Drop> Numbered<V> {
         self.high.get(number)
     }
 
+    ghost use Rattle.std.specs.Borrow.{sem};
+    ghost use Rattle.std.specs.Option.{option_copied_mut};
+    ghost use Rattle.cw_tables.specs.LentNumber.{lends_number};
+
+    /// The row of a number, to write to.
+    #[inline]
+    pub fn get_mut(&mut self, number: u32) -> Option<&mut V>
+        ensures* writes_back { sem 𝓛 (lends_number V.row self.entry number result) }
+        ensures value { option_copied_mut result ≡ numbered_row self.old number }
+    {
+        if number < LOW {
+            return self.low.get_mut(number as usize);
+        }
+        self.high.get_mut(number)
+    }
+
     /// Sets a new value in a row that is there.
     #[inline]
     pub fn set(&mut self, number: u32, value: V)

@@ -1,6 +1,7 @@
 //! A table by numbers of which few are in use, with each row in one place of memory.
 ghost use Rattle.std.specs.Prelude.{◌≡◌, ◌≤◌, ◌<◌, ◌^◌, ℕ, length, nat_eq, OnOk, OnErr, IfOk, IsSome, Some, None, IsTrue, ◌↔◌, unwrap_or, vec_len, if◌then◌else◌};
 ghost use Rattle.cw_tables.specs.Sparse.{AllReached, IsPlaceOf, home_of, is_other, listed, slot_at, value_in};
+ghost use Rattle.std.specs.Option.{option_copied_mut};
 ghost use Rattle.std.proofs.Props.{props};
 
 use std::alloc::{AllocError, Global};
@@ -18,6 +19,24 @@ const MARGIN: usize = 64;
 pub enum Slot<V> {
     Empty,
     Row { number: u32, value: V },
+}
+
+impl<V: Copy + Drop> Slot<V> {
+    ghost use Rattle.std.specs.Borrow.{sem};
+    ghost use Rattle.cw_tables.specs.Lent.{lends_value};
+
+    // The value that stands there.
+    #[inline]
+    fn value_mut(&mut self) -> Option<&mut V>
+        ensures* writes_back { sem 𝓛 (lends_value V.row self.entry result) }
+        ensures value { option_copied_mut result ≡ value_in self.old }
+    {
+        if let Slot::Row { value, .. } = self {
+            Some(value)
+        } else {
+            None
+        }
+    }
 }
 
 /// Rows of numbers in the order of their homes. A look-up goes from a number's home to the right, up to its row, an
@@ -64,6 +83,19 @@ impl<V: Copy + Drop> Sparse<V> {
             at += 1;
         }
         at
+    }
+
+    ghost use Rattle.std.specs.Borrow.{sem};
+    ghost use Rattle.cw_tables.specs.LentRow.{lends_row};
+
+    /// The row of a number, to write to.
+    #[inline]
+    pub fn get_mut(&mut self, number: u32) -> Option<&mut V>
+        ensures* writes_back { sem 𝓛 (lends_row V.row self.entry number result) }
+        ensures value { option_copied_mut result ≡ listed self.old.slots.items number }
+    {
+        let at = self.place_of(number);
+        value_at_mut(&mut self.slots, at)
     }
 
     /// Sets a new value in a row that is there.
@@ -178,6 +210,18 @@ fn value_at<V: Copy + Drop>(slots: &[Slot<V>], at: usize) -> Option<V>
         Some(Slot::Row { value, .. }) => Some(*value),
         _ => None,
     }
+}
+
+ghost use Rattle.std.specs.Borrow.{sem};
+ghost use Rattle.cw_tables.specs.Lent.{lends_value_at};
+
+// The value that stands in a place, to write to.
+#[inline]
+fn value_at_mut<V: Copy + Drop>(slots: &mut Vec<Slot<V>>, at: usize) -> Option<&mut V>
+    ensures* writes_back { sem 𝓛 (lends_value_at V.row slots.entry at result) }
+    ensures value { option_copied_mut result ≡ value_in (slot_at slots.old.items at) }
+{
+    slots.get_mut(at)?.value_mut()
 }
 
 // Slots that reach a place, and read as before.
