@@ -1,6 +1,5 @@
 -- What a table by numbers ends as, once a value was written through a reference.
-use Rattle.std.proofs.Common.{◌≡◌, ◌<◌, ◌≤◌, ◌∙◌, ◌⊎◌, inl, inr, ℕ, Bool, true, false, cond, List, length, set, get_or, Option, Some, None, IsSome, MutBor, refl, sym, ap, subst, arith, nat_eq, nat_lt}
-use Rattle.std.specs.Option.{OnSome, option_copied_mut}
+use Rattle.std.proofs.Common.{◌≡◌, ◌<◌, ◌≤◌, ◌∙◌, ◌⊎◌, inl, inr, ℕ, false, cond, List, length, set, get_or, Option, Some, IsSome, refl, sym, ap, subst, arith, nat_eq, nat_lt}
 use Rattle.std.proofs.lemmas.Bool.{cases_lt}
 use Rattle.std.proofs.lemmas.Bool.Decides.{nat_tests}
 use Rattle.std.proofs.lemmas.List.{get_or_read, get_or_past, set-get_or}
@@ -8,7 +7,7 @@ use Rattle.cw_tables.specs.declared.sparse.Slot.{Slot}
 use Rattle.cw_tables.specs.declared.sparse.Slot.TheVariants.{Empty, Row}
 use Rattle.cw_tables.specs.Sparse.{listed, slot_at, value_in, is_other, AllReached, IsPlaceOf}
 use Rattle.cw_tables.specs.Lent.{with_value}
-use Rattle.cw_tables.proofs.Placed.{reached_set, listed_set}
+use Rattle.cw_tables.proofs.Placed.{listed_here, reached_set, listed_set}
 
 -- what a reference to an element reads, and what the list is once another value was written
 module _ {V : Type 0} (slots : List (Slot V)) (at : ℕ) (slot : Slot V) (low : at < length slots) (read : slot ≡ get_or slots at slot) where
@@ -20,15 +19,6 @@ module _ {V : Type 0} (slots : List (Slot V)) (at : ℕ) (slot : Slot V) (low : 
 
   pub unwritten : set slots at slot ≡ slots
   unwritten = ap (set slots at) read_here ∙ set-get_or slots at Empty
-
--- what holds where a value is, holds where a reference to it is given
-pub on_some_by : {V P : Type 0} (r : Option (MutBor V)) (o : Option V) → option_copied_mut r ≡ o → (IsSome o → P) → OnSome r P
-on_some_by (Some x) o is holds = holds (subst (λ o. IsSome o) is refl)
-on_some_by None o is holds = tt
-
-pub on_some_then : {X P Q : Type 0} (o : Option X) → OnSome o P → (P → Q) → OnSome o Q
-on_some_then (Some x) holds then = then holds
-on_some_then None holds then = tt
 
 row_here : {V : Type 0} (slots : List (Slot V)) (at m : ℕ) (before : V) → slot_at slots at ≡ Row m before → (at < length slots) ⊎ (length slots ≤ at) → at < length slots
 row_here slots at m before is order =
@@ -58,8 +48,8 @@ module _ {V : Type 0} (slots : List (Slot V)) (shift number at : ℕ) (all : All
       ap (λ (k : ℕ). listed (set slots at (Row k value)) q) own ∙ listed_set slots shift number at all place value (row_here slots at m before is (cases_lt at (length slots))) q
 
   -- where there is a row, it has the value, and the others are as before
-  pub listed_lent : (after : List (Slot V)) → after ≡ set slots at (with_value (slot_at slots at) value) → IsSome (value_in (slot_at slots at)) → (q : ℕ) → listed after q ≡ cond (nat_eq number q) (Some value) (listed slots q)
-  listed_lent after is some q = ap (λ (l : List (Slot V)). listed l q) is ∙ listed_by (slot_at slots at) refl some q
+  pub listed_lent : (after : List (Slot V)) → after ≡ set slots at (with_value (slot_at slots at) value) → IsSome (listed slots number) → (q : ℕ) → listed after q ≡ cond (nat_eq number q) (Some value) (listed slots q)
+  listed_lent after is some q = ap (λ (l : List (Slot V)). listed l q) is ∙ listed_by (slot_at slots at) refl (subst (λ (o : Option V). IsSome o) (listed_here slots shift number at all place) some) q
 
 -- a row of a great number is none of the small ones
 module _ {A : Type 0} (limit number q : ℕ) (great : limit ≤ number) where

@@ -1,8 +1,8 @@
 -- What a table by hashes lists once a row was set where a look-up of its number ends.
-use Rattle.std.proofs.Common.{◌≡◌, ◌≢◌, ◌≤◌, ◌<◌, ◌⊎◌, ◌∙◌, inl, inr, ℕ, Bool, true, false, not, cond, List, length, set, Option, Some, None, IsSome, refl, sym, ap, subst, arith, nat_eq}
-use Rattle.std.proofs.lemmas.Bool.{cases_order, cases_lt, eqb-true}
+use Rattle.std.proofs.Common.{◌≡◌, ◌≢◌, ◌≤◌, ◌<◌, ◌⊎◌, ◌∙◌, inl, inr, ℕ, Bool, true, false, not, cond, List, length, set, Some, refl, sym, ap, subst, arith, nat_eq}
+use Rattle.std.proofs.lemmas.Bool.{cases_order, eqb-true}
 use Rattle.std.proofs.lemmas.Bool.Decides.{nat_tests}
-use Rattle.std.proofs.lemmas.List.{get_or-set_same, get_or-set_other, get_or_past}
+use Rattle.std.proofs.lemmas.List.{get_or-set_same, get_or-set_other}
 use Rattle.cw_tables.specs.declared.sparse.Slot.{Slot}
 use Rattle.cw_tables.specs.declared.sparse.Slot.TheVariants.{Empty, Row}
 use Rattle.cw_tables.specs.Sparse.{listed, slot_at, has_number, is_other, value_in, home_of, IsReached, AllReached, IsPlaceOf}
@@ -32,10 +32,6 @@ unlisted_here q number (Row own old) apart here = grind (arith, nat_tests)
 pub own_number : {V : Type 0} (number : ℕ) (value : V) → is_other number (Row number value) ≡ false
 own_number number value = grind (arith, nat_tests)
 
-is_none : {V : Type 0} (o : Option V) → o ≡ None → IsSome o → ⊥
-is_none (Some x) none some = cc
-is_none None none some = cc
-
 module _ {V : Type 0} (slots : List (Slot V)) (shift number at : ℕ) (all : AllReached slots shift) (place : IsPlaceOf slots shift number at) where
   by_order : (k : ℕ) → k ≢ at → has_number number (slot_at slots k) ≡ true → IsReached slots shift number k → (k ≡ at) ⊎ ((k < at) ⊎ (at < k)) → ⊥
   by_order k apart has own order =
@@ -54,17 +50,6 @@ module _ {V : Type 0} (slots : List (Slot V)) (shift number at : ℕ) (all : All
   -- what the look-up finds is what is listed
   pub listed_here : listed slots number ≡ value_in (slot_at slots at)
   listed_here = listed_at slots number at alone place.here
-
-  -- a row that is listed is within the places
-  pub row_within : IsSome (listed slots number) → at < length slots
-  row_within some = by_length (cases_lt at (length slots))
-    where
-      by_length : (at < length slots) ⊎ (length slots ≤ at) → at < length slots
-      by_length order =
-          elim order [
-            | inl low ↦ low
-            | inr past ↦ absurd (is_none (listed slots number) (listed_here ∙ ap value_in (get_or_past slots at Empty past)) some)
-          ]
 
 module _ {V : Type 0} (slots : List (Slot V)) (shift number at : ℕ) (all : AllReached slots shift) (place : IsPlaceOf slots shift number at) (value : V) (low : at < length slots) where
   abbrev after : List (Slot V)

@@ -61,11 +61,9 @@ impl<V: Copy + Drop> Numbered<V> {
         requires { IsSome (numbered_row self.old number) }
         ensures { (q : ℕ) → numbered_row self.new q ≡ (if nat_eq number q then Some value else numbered_row self.old q) }
     {
-        if number < LOW {
-            self.low[number as usize] = value;
-            return;
+        if let Some(row) = self.get_mut(number) {
+            *row = value;
         }
-        self.high.set(number, value);
     }
 
     /// Makes a row for a number, and may make others. Each reads as a missing one, so that the table reads as before.

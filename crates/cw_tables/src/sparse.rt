@@ -11,8 +11,8 @@ const FIRST_SHIFT: u32 = 28;
 
 const FIRST_ROOM: usize = 12;
 
-// Places behind the last home, for rows that find none at theirs.
-const MARGIN: usize = 64;
+// Places behind the last home, for rows that find none at theirs: one for each home, but no more than these.
+const MARGIN: usize = 1024;
 
 // A place of the table.
 #[derive(Clone, Copy, Drop)]
@@ -98,16 +98,6 @@ impl<V: Copy + Drop> Sparse<V> {
         value_at_mut(&mut self.slots, at)
     }
 
-    /// Sets a new value in a row that is there.
-    #[inline]
-    pub fn set(&mut self, number: u32, value: V)
-        requires { IsSome (listed self.old.slots.items number) }
-        ensures { (q : ℕ) → listed self.new.slots.items q ≡ (if nat_eq number q then Some value else listed self.old.slots.items q) }
-    {
-        let at = self.place_of(number);
-        self.slots[at] = Slot::Row { number, value };
-    }
-
     /// Makes a row for a number that has none. It reads as a missing one, so that the table reads as before.
     pub fn make(&mut self, number: u32, missing: V) -> Result<(), AllocError>
         ensures same { (q : ℕ) → unwrap_or (listed self.new.slots.items q) missing ≡ unwrap_or (listed self.old.slots.items q) missing }
@@ -159,7 +149,7 @@ impl<V: Copy + Drop> Sparse<V> {
     {
         let homes = 1usize << (32 - shift);
         let mut slots = Vec::new(alloc);
-        slots.resize(homes + MARGIN, Slot::Empty)?;
+        slots.resize(homes + homes.min(MARGIN), Slot::Empty)?;
         Ok(Sparse {
             slots,
             shift,

@@ -60,7 +60,7 @@ fn small_and_great_numbers_have_rows_of_one_table(rt: HostRuntime) -> Result<(),
 // hash's factor times a hash is the number with that hash.
 fn great(place: u32) -> u32 {
     match place % 4 {
-        0 => (1 << 20) + place,
+        0 => place | 1 << 20,
         1 => u32::MAX - place / 4,
         2 => place.wrapping_mul(0x9E37_79B1) | 1 << 31,
         _ => (u32::MAX - place).wrapping_mul(0x0E8B_2F51),
@@ -83,7 +83,10 @@ fn great_numbers_keep_their_rows_while_the_table_grows(rt: HostRuntime) -> Resul
         assert_eq!(rt; table.get(number), Some(number as u64));
         table.make(number, 3)?;
         assert_eq!(rt; table.get(number), Some(number as u64));
-        table.set(number, number as u64 + 1);
+        if let Some(value) = table.get_mut(number) {
+            *value = number as u64 + 1;
+        }
+        assert_eq!(rt; table.get_mut((1 << 21) + place).is_some(), false);
     }
     for place in 0..4000 {
         let number = great(place);

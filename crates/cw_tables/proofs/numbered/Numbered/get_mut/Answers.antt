@@ -1,16 +1,19 @@
-use Rattle.std.proofs.Common.{◌^◌, ◌∙◌, Some, cond, nat_lt, refl, sym, ap, Option}
+use Rattle.std.proofs.Common.{◌^◌, ◌∙◌, Some, cond, nat_lt, refl, sym, ap, subst, Option, IsSome}
 use Rattle.std.specs.List.{slice_get}
 use Rattle.cw_tables.specs.Sparse.{listed}
-use Rattle.cw_tables.proofs.LentLemmas.{on_some_then, great_row, great_set}
+use Rattle.cw_tables.proofs.LentLemmas.{great_row, great_set}
 use Rattle.cw_tables.proofs.numbered.Numbered.get_mut.Goals as goal
 
 pub returns : goal.returns
 returns g c = (
-    (refl,
-    (λ w. on_some_then c.get_mut-2.result (c.get_mut-2.follows.holds w) (λ set q.
-        great_set (2 ^ 20) c.args.number q c.if-number-lt-LOW.false (slice_get c.args.self.now.low.items q) (listed c.args.self.now.high.slots.items q) (listed (c.get_mut-2.follows.lender w).slots.items q) (Some w) (set q))),
-    (λ q. ap (λ (o : Option g.row.V.Denot). cond (nat_lt q (2 ^ 20)) (slice_get c.args.self.now.low.items q) o) (c.get_mut-2.follows.holds-at-none q))),
-    record {
-      writes_back = tt;
-      value = c.get_mut-2.ensures.value ∙ sym (great_row (2 ^ 20) c.args.number c.args.number c.if-number-lt-LOW.false (slice_get c.args.self.now.low.items c.args.number) (listed c.args.self.now.high.slots.items c.args.number));
-    })
+  (
+    refl,
+    (λ w some q. great_set (2 ^ 20) c.args.number q c.if-number-lt-LOW.false (slice_get c.args.self.now.low.items q) (listed c.args.self.now.high.slots.items q) (listed (c.get_mut-2.follows.lender w).slots.items q) (Some w)
+        (c.get_mut-2.follows.holds w (subst (λ (o : Option g.row.V.Denot). IsSome o) (great_row (2 ^ 20) c.args.number c.args.number c.if-number-lt-LOW.false (slice_get c.args.self.now.low.items c.args.number) (listed c.args.self.now.high.slots.items c.args.number)) some) q)),
+    (λ q. ap (λ (o : Option g.row.V.Denot). cond (nat_lt q (2 ^ 20)) (slice_get c.args.self.now.low.items q) o) (c.get_mut-2.follows.holds-at-none q)),
+  ),
+  record {
+    writes_back = tt;
+    value = c.get_mut-2.ensures.value ∙ sym (great_row (2 ^ 20) c.args.number c.args.number c.if-number-lt-LOW.false (slice_get c.args.self.now.low.items c.args.number) (listed c.args.self.now.high.slots.items c.args.number));
+  },
+)
