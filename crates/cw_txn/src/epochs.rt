@@ -100,9 +100,9 @@ fn raise_number(rows: &mut Numbered<u64>, number: u32) -> bool
     ensures there { result ≡ is_some (numbered_row rows.old number) }
     ensures raised { (q : ℕ) → numbered_row rows.new q ≡ (if result && nat_eq number q then Some (unwrap_or (numbered_row rows.old number) 0 + 1) else numbered_row rows.old q) }
 {
-    match rows.get(number) {
+    match rows.get_mut(number) {
         Some(epoch) => {
-            rows.set(number, epoch + 1);
+            *epoch += 1;
             true
         }
         None => false,

@@ -133,11 +133,14 @@ fn move_number(rows: &mut Numbered<History>, number: u32, span: &Span) -> Option
     ensures before { result ≡ numbered_row rows.old number }
     ensures moved { (q : ℕ) → numbered_row rows.new q ≡ (if is_some result && nat_eq number q then Some (record { base = (unwrap_or (numbered_row rows.old number) unset).base; end = Some span.now.to }) else numbered_row rows.old q) }
 {
-    let row = rows.get(number);
-    if let Some(before) = row {
-        rows.set(number, ended(before, span));
+    match rows.get_mut(number) {
+        Some(row) => {
+            let before = *row;
+            *row = ended(before, span);
+            Some(before)
+        }
+        None => None,
     }
-    row
 }
 
 fn move_name(rows: &mut HashMap<PartKey, History>, span: &Span) -> Option<History>
