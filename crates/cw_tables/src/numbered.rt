@@ -77,6 +77,26 @@ impl<V: Copy + Drop> Numbered<V> {
         }
         self.high.make(number, missing)
     }
+
+    /// Expects changes of the rows of these numbers: makes room for those that may be new. It looks for one close behind
+    /// the other, so that a processor waits for the memory of many at once, and the changes then find it near. The table
+    /// reads as before.
+    pub fn expect(&mut self, numbers: &[u32]) -> Result<(), AllocError>
+        ensures { (q : ℕ) → numbered_row self.new q ≡ numbered_row self.old q }
+    {
+        let strangers = self.strangers(numbers);
+        self.high.make_room(strangers)
+    }
+
+    // How many of these numbers may be new in the table by hashes, which nothing but speed depends on.
+    fn strangers(&self, numbers: &[u32]) -> usize {
+        let mut strangers: usize = 0;
+        for number in numbers {
+            let is_stranger = *number >= LOW && self.high.is_stranger(*number);
+            strangers = strangers.saturating_add(is_stranger as usize);
+        }
+        strangers
+    }
 }
 
 ghost use Rattle.std.specs.Prelude.{◌<◌, slice_get, length};

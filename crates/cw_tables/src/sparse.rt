@@ -1,6 +1,6 @@
 //! A table by numbers of which few are in use, with each row in one place of memory.
-ghost use Rattle.std.specs.Prelude.{◌≡◌, ◌≤◌, ◌<◌, ◌^◌, ℕ, length, nat_eq, OnOk, OnErr, IfOk, IsSome, Some, None, IsTrue, ◌↔◌, unwrap_or, vec_len, if◌then◌else◌};
-ghost use Rattle.cw_tables.specs.Sparse.{AllReached, IsPlaceOf, home_of, is_other, listed, slot_at, value_in};
+ghost use Rattle.std.specs.Prelude.{◌≡◌, ◌≤◌, ◌<◌, ◌^◌, ℕ, length, nat_eq, not, OnOk, OnErr, IfOk, IsSome, Some, None, IsTrue, ◌↔◌, unwrap_or, vec_len, if◌then◌else◌};
+ghost use Rattle.cw_tables.specs.Sparse.{AllReached, IsPlaceOf, has_number, home_of, is_other, listed, slot_at, value_in};
 ghost use Rattle.std.specs.Option.{option_copied_mut};
 ghost use Rattle.std.proofs.Props.{props};
 
@@ -115,6 +115,24 @@ impl<V: Copy + Drop> Sparse<V> {
         Ok(())
     }
 
+    /// Whether a number has no row at its home, as those have that came first there. It costs one look at the table.
+    #[inline]
+    pub fn is_stranger(&self, number: u32) -> bool
+        ensures { result ≡ not (has_number number (slot_at self.now.slots.items (home_of number self.now.shift))) }
+    {
+        !has_row_of(&self.slots, home(number, self.shift), number)
+    }
+
+    /// Makes room for so many rows more, or for some of them. The table reads as before.
+    pub fn make_room(&mut self, rows: usize) -> Result<(), AllocError>
+        ensures { (q : ℕ) → listed self.new.slots.items q ≡ listed self.old.slots.items q }
+    {
+        if self.room < rows {
+            self.grow()?;
+        }
+        Ok(())
+    }
+
     // Doubles the homes, where they can be.
     fn grow(&mut self) -> Result<(), AllocError>
         ensures { (q : ℕ) → listed self.new.slots.items q ≡ listed self.old.slots.items q }
@@ -187,6 +205,17 @@ fn holds_other<V: Copy + Drop>(slots: &[Slot<V>], at: usize, number: u32) -> boo
 {
     match slots.get(at) {
         Some(Slot::Row { number: other, .. }) => *other != number,
+        _ => false,
+    }
+}
+
+// Whether a place has the row of this number.
+#[inline]
+fn has_row_of<V: Copy + Drop>(slots: &[Slot<V>], at: usize, number: u32) -> bool
+    ensures { result ≡ has_number number (slot_at slots.now at) }
+{
+    match slots.get(at) {
+        Some(Slot::Row { number: other, .. }) => *other == number,
         _ => false,
     }
 }

@@ -10,7 +10,9 @@ use Rattle.cw_txn.specs.declared.entry.Entry.{Entry}
 use Rattle.cw_txn.specs.declared.walk.Walk.{Walk}
 use Rattle.cw_txn.specs.declared.replay.Queue.{Queue}
 use Rattle.cw_txn.specs.declared.replay.Waiting.{Waiting}
-use Rattle.cw_txn.specs.Walk.{Walked, Took}
+use Rattle.cw_txn.specs.declared.tables.Tables.{Tables}
+use Rattle.cw_txn.specs.Tables.{Keeps, SameRows}
+use Rattle.cw_txn.specs.Walk.{Walked, Took, Found}
 use Rattle.cw_txn.specs.Queue.{entries_of, gates_of, queue_entries, queue_gates, Queued, TookAll, Settled}
 use Rattle.cw_txn.proofs.Bodies.{body_takes}
 
@@ -68,6 +70,27 @@ takes_body body gate group old new fits read queued =
 -- none is taken
 pub took_none : (walk : Walk) → Walked walk → TookAll [] walk walk
 took_none walk walked = record { entries = sym (append-nil walk.entries.items); gates = sym (append-nil walk.gates.items); walked = walked }
+
+-- tables that read as before are those of the same entries
+same_kept : (old new : Tables) (entries : List Entry) → SameRows old new → Keeps old entries → Keeps new entries
+same_kept old new entries same kept = record {
+  epochs = λ tid. same.epochs tid ∙ kept.epochs tid;
+  committed = λ tag. same.committed tag ∙ kept.committed tag;
+  parts = λ part. same.parts part ∙ kept.parts part;
+}
+
+same_found : (old new : Tables) (entries : List Entry) (gates : List ℕ) (not_allowed unchained : Option ℕ) → SameRows old new → Found not_allowed old entries gates unchained
+    → Found not_allowed new entries gates unchained
+same_found old new entries gates None unchained same found = record { allowed = found.allowed; kept = same_kept old new entries same found.kept; chained = found.chained }
+same_found old new entries gates (Some gate) unchained same found = found
+
+-- a walk whose tables read as before has taken the same
+pub took_same : (walk : Walk) (tables : Tables) → Walked walk → SameRows walk.tables tables → TookAll [] walk (record walk { tables = tables })
+took_same walk tables walked same = record {
+  entries = sym (append-nil walk.entries.items);
+  gates = sym (append-nil walk.gates.items);
+  walked = record { counted = walked.counted; few = walked.few; aligned = walked.aligned; found = same_found walk.tables tables walk.entries.items walk.gates.items walk.not_allowed walk.unchained same walked.found };
+}
 
 -- the next is taken
 pub took_next : (waiting : List Waiting) (i : ℕ) (w : Waiting) (old mid new : Walk) → take (i + 1) waiting ≡ take i waiting ++ w ∷ [] → TookAll (take i waiting) old mid → Took (w.entry ∷ []) w.gate mid new

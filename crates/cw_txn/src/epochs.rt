@@ -40,6 +40,13 @@ impl Epochs {
         }
     }
 
+    // Expects changes of the rows of scripts' producers with these numbers. The table is as before.
+    pub fn expect(&mut self, numbers: &[u32]) -> Result<(), AllocError>
+        ensures { (q : Tid) → epoch_row self.new q ≡ epoch_row self.old q }
+    {
+        self.numbered.expect(numbers)
+    }
+
     // A row for a producer. The table reads as before.
     pub fn make(&mut self, tid: &Tid) -> Result<(), AllocError>
         ensures same { (q : Tid) → epoch_at self.new q ≡ epoch_at self.old q }

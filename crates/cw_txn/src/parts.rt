@@ -62,6 +62,13 @@ impl Parts {
         }
     }
 
+    // Expects changes of the rows of scripts' parts with these numbers. The table is as before.
+    pub fn expect(&mut self, numbers: &[u32]) -> Result<(), AllocError>
+        ensures { (q : PartKey) → part_row self.new q ≡ part_row self.old q }
+    {
+        self.numbered.expect(numbers)
+    }
+
     // A row for a part. The table reads as before.
     pub fn make(&mut self, part: &PartKey) -> Result<(), AllocError>
         ensures same { (q : PartKey) → history_at self.new q ≡ history_at self.old q }

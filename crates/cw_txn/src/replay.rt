@@ -17,7 +17,7 @@ use crate::coordinator::Coordinator;
 use crate::entry::Entry;
 use crate::walk::Walk;
 use cw_bytes::{FieldFault, Reader};
-use cw_types::Past;
+use cw_types::{PartKey, Past, Span, Tid};
 use std::alloc::{AllocError, Global};
 use std::marker::Model;
 
@@ -55,11 +55,14 @@ pub struct Replay {
     queue: Queue,
 }
 
-// A walk, and the entries behind those that it took, which wait until it takes them.
+// A walk, and the entries behind those that it took, which wait until it takes them, with the numbers of the scripts'
+// producers and parts whose rows they change.
 #[derive(Drop)]
 struct Queue {
     walk: Walk,
     waiting: Vec<Waiting>,
+    producers: Vec<u32>,
+    parts: Vec<u32>,
 }
 
 // An entry that is read, and the gate of its frame.
@@ -138,6 +141,8 @@ impl Queue {
         Queue {
             walk: Walk::new(alloc),
             waiting: Vec::new(alloc),
+            producers: Vec::new(alloc),
+            parts: Vec::new(alloc),
         }
     }
 
@@ -203,8 +208,24 @@ impl Queue {
         ensures { OnOk result (Queued (entry ∷ []) gate self.old self.new) }
     {
         self.make_room(alloc)?;
+        self.note(&entry)?;
         self.waiting.push(Waiting { entry, gate })?;
         Ok(())
+    }
+
+    // Notes whose rows an entry changes.
+    fn note(&mut self, entry: &Entry) -> Result<(), AllocError>
+        ensures walk { self.new.walk ≡ self.old.walk }
+        ensures waiting { self.new.waiting ≡ self.old.waiting }
+    {
+        match entry {
+            Entry::Bump(tid) => note_producer(&mut self.producers, tid),
+            Entry::Commit { tag, spans, .. } => {
+                note_producer(&mut self.producers, &tag.tid)?;
+                note_parts(&mut self.parts, spans.as_slice())
+            }
+            Entry::Set { .. } => Ok(()),
+        }
     }
 
     // Takes those that wait where they are many.
@@ -215,8 +236,11 @@ impl Queue {
         if self.waiting.len() < MOST_WAITING {
             return Ok(());
         }
+        self.walk.expect(&self.producers, &self.parts)?;
         take_waiting(&mut self.walk, alloc, self.waiting.as_slice())?;
         self.waiting.clear();
+        self.producers.clear();
+        self.parts.clear();
         Ok(())
     }
 
@@ -225,7 +249,7 @@ impl Queue {
         requires { Walked self.walk }
         ensures { IfOk result (λ walk. Settled self walk) }
     {
-        let Queue { walk, waiting } = self;
+        let Queue { walk, waiting, .. } = self;
         let mut walk = walk;
         take_waiting(&mut walk, alloc, waiting.as_slice())?;
         Ok(walk)
@@ -233,6 +257,24 @@ impl Queue {
 }
 
 ghost use Rattle.cw_txn.specs.declared.replay.Waiting.{Waiting};
+
+// Notes the number of a script's producer.
+fn note_producer(producers: &mut Vec<u32>, tid: &Tid) -> Result<(), AllocError> {
+    if let Tid::Raw(number) = tid {
+        producers.push(*number)?;
+    }
+    Ok(())
+}
+
+// Notes the numbers of the scripts' parts of these spans.
+fn note_parts(parts: &mut Vec<u32>, spans: &[Span]) -> Result<(), AllocError> {
+    for span in spans {
+        if let PartKey::Raw(number) = &span.part {
+            parts.push(*number)?;
+        }
+    }
+    Ok(())
+}
 
 // Takes these entries, one after the other.
 fn take_waiting(walk: &mut Walk, alloc: Global, waiting: &[Waiting]) -> Result<(), AllocError>

@@ -73,6 +73,15 @@ impl Tables {
         Ok(parts)
     }
 
+    // Expects entries that change the rows of these producers and parts of scripts.
+    pub fn expect(&mut self, producers: &[u32], parts: &[u32]) -> Result<(), AllocError>
+        ensures { SameRows self.old self.new }
+    {
+        self.epochs.expect(producers)?;
+        self.parts.expect(parts)?;
+        Ok(())
+    }
+
     // The rows that an entry changes, reading as before.
     pub fn make_rows(&mut self, entry: &EntryRef<'_>) -> Result<(), AllocError>
         ensures same { SameRows self.old self.new }

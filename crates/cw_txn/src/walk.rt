@@ -4,6 +4,7 @@ ghost use Rattle.cw_types.specs.declared.ids.PartKey.{PartKey};
 ghost use Rattle.cw_txn.specs.declared.entry.Entry.{Entry};
 ghost use Rattle.cw_txn.specs.Legal.{Chains};
 ghost use Rattle.cw_txn.specs.Allowed.{AreAllowed, IsFirstNotAllowed, IsFirstUnchained};
+ghost use Rattle.cw_txn.specs.Queue.{TookAll};
 ghost use Rattle.cw_txn.specs.Walk.{OnListFault, ChainsUpTo, IsChainTest, Found, Walked, Took};
 
 use crate::allowed::is_allowed;
@@ -40,6 +41,14 @@ impl Walk {
             not_allowed: None,
             unchained: None,
         }
+    }
+
+    // Expects entries that change the rows of these producers and parts of scripts.
+    pub fn expect(&mut self, producers: &[u32], parts: &[u32]) -> Result<(), AllocError>
+        requires { Walked self.old }
+        ensures { TookAll [] self.old self.new }
+    {
+        self.tables.expect(producers, parts)
     }
 
     // One entry more. Behind one that isn't allowed nothing else is looked for: no later fault comes before it.
