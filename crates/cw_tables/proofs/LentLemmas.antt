@@ -11,15 +11,19 @@ use Rattle.cw_tables.proofs.Placed.{listed_here, reached_set, listed_set}
 
 -- what a reference to an element reads, and what the list is once another value was written
 module _ {V : Type 0} (slots : List (Slot V)) (at : ℕ) (slot : Slot V) (low : at < length slots) (read : slot ≡ get_or slots at slot) where
+  -- what it reads stands there
   pub read_here : slot ≡ slot_at slots at
   read_here = get_or_read slots at slot low read Empty
 
+  -- the value is written in what stands there
   pub written : (value : V) → set slots at (with_value slot value) ≡ set slots at (with_value (slot_at slots at) value)
   written value = ap (λ (s : Slot V). set slots at (with_value s value)) read_here
 
+  -- what is given back as it was changes nothing
   pub unwritten : set slots at slot ≡ slots
   unwritten = ap (set slots at) read_here ∙ set-get_or slots at Empty
 
+-- a row is within the places
 row_here : {V : Type 0} (slots : List (Slot V)) (at m : ℕ) (before : V) → slot_at slots at ≡ Row m before → (at < length slots) ⊎ (length slots ≤ at) → at < length slots
 row_here slots at m before is order =
     elim order [
@@ -27,10 +31,12 @@ row_here slots at m before is order =
       | inr past ↦ let empty : slot_at slots at ≡ Empty = get_or_past slots at Empty past in absurd (cc)
     ]
 
+-- a row that is no other is of this number
 own_row : {V : Type 0} (number m : ℕ) (before : V) → is_other number (Row m before) ≡ false → m ≡ number
 own_row number m before here = grind (arith, nat_tests)
 
 module _ {V : Type 0} (slots : List (Slot V)) (shift number at : ℕ) (all : AllReached slots shift) (place : IsPlaceOf slots shift number at) (value : V) where
+  -- the two kinds of places
   reached_by : (slot : Slot V) → slot_at slots at ≡ slot → AllReached (set slots at (with_value slot value)) shift
   reached_by Empty is = subst (λ (l : List (Slot V)). AllReached l shift) (sym (ap (set slots at) (sym is) ∙ set-get_or slots at Empty)) all
   reached_by (Row m before) is =
@@ -41,6 +47,7 @@ module _ {V : Type 0} (slots : List (Slot V)) (shift number at : ℕ) (all : All
   pub reached_lent : (after : List (Slot V)) → after ≡ set slots at (with_value (slot_at slots at) value) → AllReached after shift
   reached_lent after is = subst (λ (l : List (Slot V)). AllReached l shift) (sym is) (reached_by (slot_at slots at) refl)
 
+  -- a place with a row
   listed_by : (slot : Slot V) → slot_at slots at ≡ slot → IsSome (value_in slot) → (q : ℕ) → listed (set slots at (with_value slot value)) q ≡ cond (nat_eq number q) (Some value) (listed slots q)
   listed_by Empty is some q = cc
   listed_by (Row m before) is some q =
@@ -53,6 +60,7 @@ module _ {V : Type 0} (slots : List (Slot V)) (shift number at : ℕ) (all : All
 
 -- a row of a great number is none of the small ones
 module _ {A : Type 0} (limit number q : ℕ) (great : limit ≤ number) where
+  -- it is a row of the other table
   pub great_row : (low high : A) → cond (nat_lt number limit) low high ≡ high
   great_row low high = grind (arith, nat_tests)
 

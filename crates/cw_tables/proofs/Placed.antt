@@ -8,10 +8,12 @@ use Rattle.cw_tables.specs.declared.sparse.Slot.TheVariants.{Empty, Row}
 use Rattle.cw_tables.specs.Sparse.{listed, slot_at, has_number, is_other, value_in, home_of, IsReached, AllReached, IsPlaceOf}
 use Rattle.cw_tables.proofs.Places.{listed_at, listed-set_other}
 
+-- a test that cannot be true
 pub false_by : (b : Bool) → (b ≡ true → ⊥) → b ≡ false
 false_by true never = absurd (never refl)
 false_by false never = refl
 
+-- no place has both a number and another
 not_both : {V : Type 0} (number : ℕ) (slot : Slot V) → has_number number slot ≡ true → is_other number slot ≡ true → ⊥
 not_both number Empty has other = cc
 not_both number (Row own value) has other = both (nat_eq own number) has other
@@ -25,14 +27,17 @@ other_still : {V : Type 0} (m number : ℕ) (value : V) (slot : Slot V) → is_o
 other_still m number value Empty other here = cc
 other_still m number value (Row own old) other here = grind (arith, nat_tests)
 
+-- where a look-up ends stands no number but its own
 unlisted_here : {V : Type 0} (q number : ℕ) (slot : Slot V) → nat_eq number q ≡ false → is_other number slot ≡ false → has_number q slot ≡ false
 unlisted_here q number Empty apart here = refl
 unlisted_here q number (Row own old) apart here = grind (arith, nat_tests)
 
+-- a row of a number is none of another
 pub own_number : {V : Type 0} (number : ℕ) (value : V) → is_other number (Row number value) ≡ false
 own_number number value = grind (arith, nat_tests)
 
 module _ {V : Type 0} (slots : List (Slot V)) (shift number at : ℕ) (all : AllReached slots shift) (place : IsPlaceOf slots shift number at) where
+  -- a second place would be reached only past the first, which is no other number
   by_order : (k : ℕ) → k ≢ at → has_number number (slot_at slots k) ≡ true → IsReached slots shift number k → (k ≡ at) ⊎ ((k < at) ⊎ (at < k)) → ⊥
   by_order k apart has own order =
       elim order [
@@ -55,21 +60,26 @@ module _ {V : Type 0} (slots : List (Slot V)) (shift number at : ℕ) (all : All
   abbrev after : List (Slot V)
   after = set slots at (Row number value)
 
+  -- what stands there now
   now_here : slot_at after at ≡ Row number value
   now_here = get_or-set_same slots at (Row number value) Empty low
 
+  -- the other places are as before
   elsewhere : (k : ℕ) → k ≢ at → slot_at after k ≡ slot_at slots k
   elsewhere k apart = get_or-set_other slots at k (Row number value) Empty apart
 
+  -- the look-up comes to the row
   place_reached : IsReached after shift number at
   place_reached = record {
     from = place.reached.from;
     others = λ k from before. ap (is_other number) (elsewhere k (omega arith)) ∙ place.reached.others k from before;
   }
 
+  -- look-ups of other numbers go on past it
   other_here : (m k : ℕ) → IsReached slots shift m k → home_of m shift ≤ at → at < k → is_other m (slot_at after at) ≡ true
   other_here m k own from before = ap (is_other m) now_here ∙ other_still m number value (slot_at slots at) (own.others at from before) place.here
 
+  -- and come to where they came before
   still_reached : (m k : ℕ) → IsReached slots shift m k → IsReached after shift m k
   still_reached m k own = record {
     from = own.from;
@@ -105,6 +115,7 @@ module _ {V : Type 0} (slots : List (Slot V)) (shift number at : ℕ) (all : All
             ]
           ]
 
+  -- the look-up ends at the row
   place_set : IsPlaceOf after shift number at
   place_set = record {
     reached = place_reached;
@@ -126,6 +137,7 @@ module _ {V : Type 0} (slots : List (Slot V)) (shift number at : ℕ) (all : All
           ∙ sym (ap (λ (b : Bool). cond b (Some value) (listed slots q)) apart)
 
 module _ {V : Type 0} (before after : List (Slot V)) (shift : ℕ) (same : (k : ℕ) → slot_at after k ≡ slot_at before k) where
+  -- a place that a look-up comes to
   reached_one : (m k : ℕ) → IsReached before shift m k → IsReached after shift m k
   reached_one m k own = record {
     from = own.from;
@@ -136,6 +148,7 @@ module _ {V : Type 0} (before after : List (Slot V)) (shift : ℕ) (same : (k : 
   pub reached_same : AllReached before shift → AllReached after shift
   reached_same all m k has = reached_one m k (all m k (sym (ap (has_number m) (same k)) ∙ has))
 
+  -- and look-ups end where they ended
   pub place_same : (m k : ℕ) → IsPlaceOf before shift m k → IsPlaceOf after shift m k
   place_same m k place = record {
     reached = reached_one m k place.reached;

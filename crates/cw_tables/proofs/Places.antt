@@ -14,6 +14,7 @@ listed_none (Empty ∷ slots) number none = listed_none slots number (λ k. none
 listed_none {V = V} (Row other value ∷ slots) number none =
     ap (λ (b : Bool). cond b (Some value) (listed slots number)) (none 0) ∙ listed_none slots number (λ k. none (suc k))
 
+-- what is not another number is this one
 no_longer : (b : Bool) → not b ≡ false → b ≡ true
 no_longer true lacks = refl
 no_longer false lacks = cc
@@ -32,6 +33,7 @@ listed-skip : {V : Type 0} (slot : Slot V) (slots : List (Slot V)) (number : ℕ
 listed-skip Empty slots number lacks = refl
 listed-skip (Row other value) slots number lacks = ap (λ (b : Bool). cond b (Some value) (listed slots number)) lacks
 
+-- the same place before lists that agree
 listed-tail : {V : Type 0} (slot : Slot V) (a b : List (Slot V)) (number : ℕ) → listed a number ≡ listed b number → listed (slot ∷ a) number ≡ listed (slot ∷ b) number
 listed-tail Empty a b number same = same
 listed-tail {V = V} (Row other value) a b number same = ap (λ (o : Option V). cond (nat_eq other number) (Some value) o) same
@@ -54,12 +56,14 @@ listed_same {V = V} (slot ∷ a) (other ∷ b) same number =
 pub slot_at-empty : {V : Type 0} (count k : ℕ) → slot_at {V = V} (replicate count Empty) k ≡ Empty
 slot_at-empty {V = V} count k = ⊎_elim (λ low. get_or-replicate count k Empty Empty low) (λ past. get_or_past (replicate count Empty) k Empty (omega (arith, length-replicate {A = Slot V} count Empty, past))) (cases_lt k count)
 
+-- two tests that are never both true, in either order
 cond_swap : {A : Type 0} (b c : Bool) (x y z : A) → (b ≡ true → c ≡ true → ⊥) → cond b x (cond c y z) ≡ cond c y (cond b x z)
 cond_swap true true x y z apart = absurd (apart refl refl)
 cond_swap true false x y z apart = refl
 cond_swap false true x y z apart = refl
 cond_swap false false x y z apart = refl
 
+-- a number is not two others at once
 apart_by : (m n q : ℕ) → nat_eq m n ≡ false → nat_eq m q ≡ true → nat_eq n q ≡ true → ⊥
 apart_by m n q apart first second = grind (arith, nat_tests)
 

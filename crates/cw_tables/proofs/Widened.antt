@@ -29,12 +29,15 @@ read_slot {V = V} slots read i slot same low is = ap (λ (l : List (Slot V)). sl
 
 -- the rows up to a place, put again in their order
 module _ {V : Type 0} (slots : List (Slot V)) (shift i : ℕ) (before : List (Slot V)) (so_far : (q : ℕ) → listed before q ≡ listed (take i slots) q) where
+  -- the next place as a loop counts it
   next : (q : ℕ) → listed (take (suc i) slots) q ≡ listed (take (i + 1) slots) q
   next q = let one : suc i ≡ i + 1 = omega arith in ap (λ (m : ℕ). listed (take m slots) q) one
 
+  -- an empty place
   pub none_again : slot_at slots i ≡ Empty → (q : ℕ) → listed before q ≡ listed (take (i + 1) slots) q
   none_again here q = so_far q ∙ sym (listed-take_empty slots i here q) ∙ next q
 
+  -- a place with a row
   pub row_again : (number : ℕ) (value : V) (after : List (Slot V)) → AllReached slots shift → slot_at slots i ≡ Row number value → ((q : ℕ) → listed after q ≡ cond (nat_eq number q) (Some value) (listed before q)) → (q : ℕ) → listed after q ≡ listed (take (i + 1) slots) q
   row_again number value after all here put q =
       put q

@@ -1,5 +1,5 @@
 //! A table by numbers of which few are in use, with each row in one place of memory.
-ghost use Rattle.std.specs.Prelude.{◌≡◌, ◌≤◌, ◌<◌, ◌^◌, ℕ, length, nat_eq, not, OnOk, OnErr, IfOk, IsSome, Some, None, IsTrue, ◌↔◌, unwrap_or, vec_len, if◌then◌else◌};
+ghost use Rattle.std.specs.Prelude.{◌≡◌, ◌≤◌, ◌<◌, ◌^◌, ℕ, length, nat_eq, not, OnOk, OnErr, IfOk, IsSome, Some, None, unwrap_or, if◌then◌else◌};
 ghost use Rattle.cw_tables.specs.Sparse.{AllReached, IsPlaceOf, has_number, home_of, is_other, listed, slot_at, value_in};
 ghost use Rattle.std.specs.Option.{option_copied_mut};
 ghost use Rattle.std.proofs.Props.{props};
@@ -9,9 +9,10 @@ use std::alloc::{AllocError, Global};
 // A table begins with 16 homes.
 const FIRST_SHIFT: u32 = 28;
 
+// Three quarters of them may have rows.
 const FIRST_ROOM: usize = 12;
 
-// Places behind the last home, for rows that find none at theirs: one for each home, but no more than these.
+// Places behind the last home, for rows that find none at theirs: as many as there are homes, but at most these.
 const MARGIN: usize = 1024;
 
 // A place of the table.
@@ -44,9 +45,9 @@ impl<V: Copy + Drop> Slot<V> {
 #[derive(Drop)]
 pub struct Sparse<V> {
     slots: Vec<Slot<V>>,
-    // a home is a hash shifted by it to the right
+    // a home is a hash shifted by this to the right, so that there are 2^(32 - shift) of them
     shift: u32,
-    // rows that may come before the homes are doubled
+    // rows that may come before the homes are doubled, which keeps a quarter of them free
     room: usize,
     ghost shifts: { shift < 32 },
     ghost reached: { AllReached slots.items shift } by { Prim.hlevel props },

@@ -78,6 +78,7 @@ fn great_numbers_keep_their_rows_while_the_table_grows(rt: HostRuntime) -> Resul
         table.set(number, number as u64);
     }
     assert_eq!(rt; table.get(u32::MAX), Some(u32::MAX as u64));
+    table.expect(&[5, great(1), u32::MAX - 1])?;
     for place in 0..4000 {
         let number = great(place);
         assert_eq!(rt; table.get(number), Some(number as u64));
