@@ -1,5 +1,5 @@
 //! A table by numbers, most of which are small.
-ghost use Rattle.std.specs.Prelude.{◌≡◌, ℕ, nat_eq, OnOk, IsSome, Some, unwrap_or, if◌then◌else◌};
+ghost use Rattle.std.specs.Prelude.{◌≡◌, ℕ, nat_eq, false, OnOk, IsSome, Some, unwrap_or, if◌then◌else◌};
 
 use crate::sparse::Sparse;
 use std::alloc::{AllocError, Global};
@@ -78,24 +78,23 @@ impl<V: Copy + Drop> Numbered<V> {
         self.high.make(number, missing)
     }
 
-    /// Expects changes of the rows of these numbers: makes room for those that may be new. It looks for one close behind
-    /// the other, so that a processor waits for the memory of many at once, and the changes then find it near. The table
-    /// reads as before.
-    pub fn expect(&mut self, numbers: &[u32]) -> Result<(), AllocError>
-        ensures { (q : ℕ) → numbered_row self.new q ≡ numbered_row self.old q }
+    /// Whether a number may have no row, told by one look: where it answers `false` there is a row. A processor waits for
+    /// the memory of many such looks at once, and finds it near when the rows are changed.
+    #[inline]
+    pub fn may_be_new(&self, number: u32) -> bool
+        ensures { result ≡ false → IsSome (numbered_row self.now number) }
     {
-        let strangers = self.strangers(numbers);
-        self.high.make_room(strangers)
+        if number < LOW {
+            return number as usize >= self.low.len();
+        }
+        self.high.is_stranger(number)
     }
 
-    // How many of these numbers may be new in the table by hashes, which nothing but speed depends on.
-    fn strangers(&self, numbers: &[u32]) -> usize {
-        let mut strangers: usize = 0;
-        for number in numbers {
-            let is_stranger = *number >= LOW && self.high.is_stranger(*number);
-            strangers = strangers.saturating_add(is_stranger as usize);
-        }
-        strangers
+    /// Makes room for so many new rows, or for some of them. The table reads as before.
+    pub fn make_room(&mut self, rows: usize) -> Result<(), AllocError>
+        ensures { (q : ℕ) → numbered_row self.new q ≡ numbered_row self.old q }
+    {
+        self.high.make_room(rows)
     }
 }
 

@@ -1,5 +1,5 @@
 //! A table by numbers of which few are in use, with each row in one place of memory.
-ghost use Rattle.std.specs.Prelude.{◌≡◌, ◌≤◌, ◌<◌, ◌^◌, ℕ, length, nat_eq, not, OnOk, OnErr, IfOk, IsSome, Some, None, unwrap_or, if◌then◌else◌};
+ghost use Rattle.std.specs.Prelude.{◌≡◌, ◌≤◌, ◌<◌, ◌^◌, ℕ, length, nat_eq, false, OnOk, OnErr, IfOk, IsSome, Some, None, unwrap_or, if◌then◌else◌};
 ghost use Rattle.cw_tables.specs.Sparse.{AllReached, IsPlaceOf, has_number, home_of, is_other, listed, slot_at, value_in};
 ghost use Rattle.std.specs.Option.{option_copied_mut};
 ghost use Rattle.std.proofs.Props.{props};
@@ -119,7 +119,7 @@ impl<V: Copy + Drop> Sparse<V> {
     /// Whether a number has no row at its home, as those have that came first there. It costs one look at the table.
     #[inline]
     pub fn is_stranger(&self, number: u32) -> bool
-        ensures { result ≡ not (has_number number (slot_at self.now.slots.items (home_of number self.now.shift))) }
+        ensures { result ≡ false → IsSome (listed self.now.slots.items number) }
     {
         !has_row_of(&self.slots, home(number, self.shift), number)
     }

@@ -78,7 +78,9 @@ fn great_numbers_keep_their_rows_while_the_table_grows(rt: HostRuntime) -> Resul
         table.set(number, number as u64);
     }
     assert_eq!(rt; table.get(u32::MAX), Some(u32::MAX as u64));
-    table.expect(&[5, great(1), u32::MAX - 1])?;
+    table.make_room(5000)?;
+    assert!(rt; table.may_be_new((1 << 21) + 1));
+    assert!(rt; table.may_be_new(5));
     for place in 0..4000 {
         let number = great(place);
         assert_eq!(rt; table.get(number), Some(number as u64));

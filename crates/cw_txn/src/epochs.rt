@@ -1,5 +1,5 @@
 //! The table of producers' epochs.
-ghost use Rattle.std.specs.Prelude.{◌≡◌, ◌<◌, ◌+◌, ◌^◌, ◌&&◌, OnOk, IsSome, Some, None, is_some, unwrap_or, if◌then◌else◌};
+ghost use Rattle.std.specs.Prelude.{◌≡◌, ◌<◌, ◌+◌, ◌^◌, ◌&&◌, false, OnOk, IsSome, Some, None, is_some, unwrap_or, if◌then◌else◌};
 ghost use Rattle.std.specs.HashMap.{get};
 ghost use Rattle.cw_types.specs.declared.ids.Tid.{Tid};
 ghost use Rattle.cw_types.specs.Same.{same_tid};
@@ -40,11 +40,22 @@ impl Epochs {
         }
     }
 
-    // Expects changes of the rows of scripts' producers with these numbers. The table is as before.
-    pub fn expect(&mut self, numbers: &[u32]) -> Result<(), AllocError>
+    // Whether a producer is a script's that may have no row, told by one look.
+    #[inline]
+    pub fn may_be_new(&self, tid: &Tid) -> bool
+        ensures { (n : ℕ) → tid.now ≡ Tid.Raw n → result ≡ false → IsSome (epoch_row self.now tid.now) }
+    {
+        match tid {
+            Tid::Raw(number) => self.numbered.may_be_new(*number),
+            _ => false,
+        }
+    }
+
+    // Makes room for so many scripts' producers more, or for some of them. The table is as before.
+    pub fn make_room(&mut self, rows: usize) -> Result<(), AllocError>
         ensures { (q : Tid) → epoch_row self.new q ≡ epoch_row self.old q }
     {
-        self.numbered.expect(numbers)
+        self.numbered.make_room(rows)
     }
 
     // A row for a producer. The table reads as before.

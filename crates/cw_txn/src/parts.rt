@@ -1,5 +1,5 @@
 //! The table of what is committed of each part.
-ghost use Rattle.std.specs.Prelude.{◌≡◌, ◌↔◌, ◌&&◌, ℕ, nat_eq, IfOk, OnOk, IsSome, IsTrue, Some, None, is_some, unwrap_or, if◌then◌else◌};
+ghost use Rattle.std.specs.Prelude.{◌≡◌, ◌↔◌, ◌&&◌, ℕ, nat_eq, false, IfOk, OnOk, IsSome, IsTrue, Some, None, is_some, unwrap_or, if◌then◌else◌};
 ghost use Rattle.std.specs.HashMap.{get};
 ghost use Rattle.cw_types.specs.declared.ids.PartKey.{PartKey};
 ghost use Rattle.cw_tables.specs.Numbered.{numbered_row};
@@ -62,11 +62,22 @@ impl Parts {
         }
     }
 
-    // Expects changes of the rows of scripts' parts with these numbers. The table is as before.
-    pub fn expect(&mut self, numbers: &[u32]) -> Result<(), AllocError>
+    // Whether a part is a script's that may have no row, told by one look.
+    #[inline]
+    pub fn may_be_new(&self, part: &PartKey) -> bool
+        ensures { (n : ℕ) → part.now ≡ PartKey.Raw n → result ≡ false → HasPart self.now part.now }
+    {
+        match part {
+            PartKey::Raw(number) => self.numbered.may_be_new(*number),
+            _ => false,
+        }
+    }
+
+    // Makes room for so many scripts' parts more, or for some of them. The table is as before.
+    pub fn make_room(&mut self, rows: usize) -> Result<(), AllocError>
         ensures { (q : PartKey) → part_row self.new q ≡ part_row self.old q }
     {
-        self.numbered.expect(numbers)
+        self.numbered.make_room(rows)
     }
 
     // A row for a part. The table reads as before.

@@ -15,14 +15,14 @@ ghost use Rattle.cw_txn.specs.Replayed.{TakesBody};
 use crate::body::{BodyFault, read_count, read_entry};
 use crate::coordinator::Coordinator;
 use crate::entry::Entry;
+use crate::tables::{NewRows, Tables};
 use crate::walk::Walk;
 use cw_bytes::{FieldFault, Reader};
-use cw_types::{PartKey, Past, Span, Tid};
+use cw_types::Past;
 use std::alloc::{AllocError, Global};
 use std::marker::Model;
 
-// So many entries wait at most. They are taken one close behind the other, so that the processor looks for the rows of
-// some while it still waits for those of the ones before them.
+// So many entries wait at most, whose rows are looked for together.
 const MOST_WAITING: usize = 32;
 
 /// Why the entries of a log's bodies are none that a coordinator holds.
@@ -55,14 +55,11 @@ pub struct Replay {
     queue: Queue,
 }
 
-// A walk, and the entries behind those that it took, which wait until it takes them, with the numbers of the scripts'
-// producers and parts whose rows they change.
+// A walk, and the entries behind those that it took, which wait until it takes them.
 #[derive(Drop)]
 struct Queue {
     walk: Walk,
     waiting: Vec<Waiting>,
-    producers: Vec<u32>,
-    parts: Vec<u32>,
 }
 
 // An entry that is read, and the gate of its frame.
@@ -141,8 +138,6 @@ impl Queue {
         Queue {
             walk: Walk::new(alloc),
             waiting: Vec::new(alloc),
-            producers: Vec::new(alloc),
-            parts: Vec::new(alloc),
         }
     }
 
@@ -208,24 +203,8 @@ impl Queue {
         ensures { OnOk result (Queued (entry ∷ []) gate self.old self.new) }
     {
         self.make_room(alloc)?;
-        self.note(&entry)?;
         self.waiting.push(Waiting { entry, gate })?;
         Ok(())
-    }
-
-    // Notes whose rows an entry changes.
-    fn note(&mut self, entry: &Entry) -> Result<(), AllocError>
-        ensures walk { self.new.walk ≡ self.old.walk }
-        ensures waiting { self.new.waiting ≡ self.old.waiting }
-    {
-        match entry {
-            Entry::Bump(tid) => note_producer(&mut self.producers, tid),
-            Entry::Commit { tag, spans, .. } => {
-                note_producer(&mut self.producers, &tag.tid)?;
-                note_parts(&mut self.parts, spans.as_slice())
-            }
-            Entry::Set { .. } => Ok(()),
-        }
     }
 
     // Takes those that wait where they are many.
@@ -236,11 +215,10 @@ impl Queue {
         if self.waiting.len() < MOST_WAITING {
             return Ok(());
         }
-        self.walk.expect(&self.producers, &self.parts)?;
+        let new = new_rows(&self.walk.tables, &self.waiting);
+        self.walk.make_room(new)?;
         take_waiting(&mut self.walk, alloc, self.waiting.as_slice())?;
         self.waiting.clear();
-        self.producers.clear();
-        self.parts.clear();
         Ok(())
     }
 
@@ -249,7 +227,7 @@ impl Queue {
         requires { Walked self.walk }
         ensures { IfOk result (λ walk. Settled self walk) }
     {
-        let Queue { walk, waiting, .. } = self;
+        let Queue { walk, waiting } = self;
         let mut walk = walk;
         take_waiting(&mut walk, alloc, waiting.as_slice())?;
         Ok(walk)
@@ -258,22 +236,14 @@ impl Queue {
 
 ghost use Rattle.cw_txn.specs.declared.replay.Waiting.{Waiting};
 
-// Notes the number of a script's producer.
-fn note_producer(producers: &mut Vec<u32>, tid: &Tid) -> Result<(), AllocError> {
-    if let Tid::Raw(number) = tid {
-        producers.push(*number)?;
+// How many rows may be new that these entries change. One row is looked for close behind the other, so that a processor
+// waits for the memory of many at once, and it lies near when they are changed.
+fn new_rows(tables: &Tables, waiting: &[Waiting]) -> NewRows {
+    let mut new = NewRows::NONE;
+    for next in waiting {
+        tables.count_new(&next.entry, &mut new);
     }
-    Ok(())
-}
-
-// Notes the numbers of the scripts' parts of these spans.
-fn note_parts(parts: &mut Vec<u32>, spans: &[Span]) -> Result<(), AllocError> {
-    for span in spans {
-        if let PartKey::Raw(number) = &span.part {
-            parts.push(*number)?;
-        }
-    }
-    Ok(())
+    new
 }
 
 // Takes these entries, one after the other.

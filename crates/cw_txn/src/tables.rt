@@ -22,6 +22,30 @@ pub struct Tables {
     pub parts: Parts,
 }
 
+// How many producers and parts of scripts may be new. Nothing but speed depends on it.
+#[derive(Clone, Copy, Drop)]
+pub struct NewRows {
+    pub producers: usize,
+    pub parts: usize,
+}
+
+impl NewRows {
+    pub const NONE: NewRows = NewRows {
+        producers: 0,
+        parts: 0,
+    };
+
+    #[inline]
+    fn add_producer(&mut self, is_new: bool) {
+        self.producers = self.producers.saturating_add(is_new as usize);
+    }
+
+    #[inline]
+    fn add_part(&mut self, is_new: bool) {
+        self.parts = self.parts.saturating_add(is_new as usize);
+    }
+}
+
 impl Tables {
     ghost use Rattle.cw_txn.specs.Committed.{committed_at};
     ghost use Rattle.cw_txn.specs.EpochRows.{epoch_at};
@@ -73,13 +97,24 @@ impl Tables {
         Ok(parts)
     }
 
-    // Expects entries that change the rows of these producers and parts of scripts.
-    pub fn expect(&mut self, producers: &[u32], parts: &[u32]) -> Result<(), AllocError>
+    // Counts the rows of scripts' producers and parts that an entry changes and that may be new.
+    pub fn count_new(&self, entry: &Entry, new: &mut NewRows) {
+        match entry {
+            Entry::Bump(tid) => new.add_producer(self.epochs.may_be_new(tid)),
+            Entry::Commit { tag, spans, .. } => {
+                new.add_producer(self.epochs.may_be_new(&tag.tid));
+                count_new_parts(&self.parts, spans.as_slice(), new);
+            }
+            Entry::Set { .. } => {}
+        }
+    }
+
+    // Makes room for so many new rows, or for some of them.
+    pub fn make_room(&mut self, new: NewRows) -> Result<(), AllocError>
         ensures { SameRows self.old self.new }
     {
-        self.epochs.expect(producers)?;
-        self.parts.expect(parts)?;
-        Ok(())
+        self.epochs.make_room(new.producers)?;
+        self.parts.make_room(new.parts)
     }
 
     // The rows that an entry changes, reading as before.
@@ -176,6 +211,13 @@ pub fn same_names(a: &Name, b: &Name) -> bool
     ensures { result ≡ bytes_eq a.now b.now }
 {
     a == b
+}
+
+// Counts the parts of these spans that may be new.
+fn count_new_parts(parts: &Parts, spans: &[Span], new: &mut NewRows) {
+    for span in spans {
+        new.add_part(parts.may_be_new(&span.part));
+    }
 }
 
 fn make_span_parts(parts: &mut Parts, spans: &[Span]) -> Result<(), AllocError>

@@ -11,7 +11,7 @@ use crate::allowed::is_allowed;
 use crate::coordinator::{Coordinator, MOST_ENTRIES, coordinator_of};
 use crate::entry::Entry;
 use crate::replay::ListFault;
-use crate::tables::Tables;
+use crate::tables::{NewRows, Tables};
 use cw_types::Past;
 use std::alloc::{AllocError, Global};
 
@@ -43,12 +43,12 @@ impl Walk {
         }
     }
 
-    // Expects entries that change the rows of these producers and parts of scripts.
-    pub fn expect(&mut self, producers: &[u32], parts: &[u32]) -> Result<(), AllocError>
+    // Makes room for so many new rows, or for some of them.
+    pub fn make_room(&mut self, new: NewRows) -> Result<(), AllocError>
         requires { Walked self.old }
         ensures { TookAll [] self.old self.new }
     {
-        self.tables.expect(producers, parts)
+        self.tables.make_room(new)
     }
 
     // One entry more. Behind one that isn't allowed nothing else is looked for: no later fault comes before it.
