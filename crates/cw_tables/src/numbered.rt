@@ -4,15 +4,20 @@ ghost use Rattle.std.specs.Prelude.{◌≡◌, ℕ, nat_eq, false, OnOk, IsSome,
 use crate::sparse::Sparse;
 use std::alloc::{AllocError, Global};
 
-// Numbers below it are places of a list.
+// Numbers below it are places of a list from the beginning.
 const LOW: u32 = 1 << 20;
 
-/// A table by numbers. Those below 2^20 are places of a list, which a look-up reads at once, and up to the greatest of
-/// which it takes memory; others have rows of a table by hashes.
+/// A table by numbers. Small ones are places of a list, which a look-up reads at once, and up to the greatest of which it
+/// takes memory: those below 2^20, and below twice as much and so on as long as the list is in use and no greater number
+/// has come. Others have rows of a table by hashes.
 #[derive(Drop)]
 pub struct Numbered<V> {
     low: Vec<V>,
     high: Sparse<V>,
+    // numbers below it are places of the list
+    limit: u32,
+    // how often the list was lengthened for a new number
+    lengthened: u32,
 }
 
 impl<V: Copy + Drop> Numbered<V> {
@@ -25,6 +30,8 @@ impl<V: Copy + Drop> Numbered<V> {
         Numbered {
             low: Vec::new(alloc),
             high: Sparse::new(alloc),
+            limit: LOW,
+            lengthened: 0,
         }
     }
 
@@ -33,7 +40,7 @@ impl<V: Copy + Drop> Numbered<V> {
     pub fn get(&self, number: u32) -> Option<V>
         ensures { result ≡ numbered_row self.now number }
     {
-        if number < LOW {
+        if number < self.limit {
             return self.low.get(number as usize).copied();
         }
         self.high.get(number)
@@ -49,7 +56,7 @@ impl<V: Copy + Drop> Numbered<V> {
         ensures* writes_back { sem 𝓛 (lends_number V.row self.entry number result) }
         ensures value { option_copied_mut result ≡ numbered_row self.old number }
     {
-        if number < LOW {
+        if number < self.limit {
             return self.low.get_mut(number as usize);
         }
         self.high.get_mut(number)
@@ -72,10 +79,25 @@ impl<V: Copy + Drop> Numbered<V> {
         ensures kept { (q : ℕ) → IsSome (numbered_row self.old q) → IsSome (numbered_row self.new q) }
         ensures there { OnOk result (IsSome (numbered_row self.new number)) }
     {
-        if number < LOW {
+        if number >= self.limit {
+            self.raise_limit();
+        }
+        if number < self.limit {
+            self.lengthened = self.lengthened.saturating_add(1);
             return reach(&mut self.low, number, missing);
         }
         self.high.make(number, missing)
+    }
+
+    // Doubles the limit where the list has reached it with a quarter of its places in use, so that it takes memory by
+    // its rows alone, and no greater number has a row. The table reads as before.
+    fn raise_limit(&mut self)
+        ensures { (q : ℕ) → numbered_row self.new q ≡ numbered_row self.old q }
+    {
+        let is_in_use = self.low.len() == self.limit as usize && self.lengthened >= self.limit / 4;
+        if is_in_use && self.high.is_empty() && self.limit < 1 << 31 {
+            self.limit *= 2;
+        }
     }
 
     /// Whether a number may have no row, told by one look: where it answers `false` there is a row. A processor waits for
@@ -84,7 +106,7 @@ impl<V: Copy + Drop> Numbered<V> {
     pub fn may_be_new(&self, number: u32) -> bool
         ensures { result ≡ false → IsSome (numbered_row self.now number) }
     {
-        if number < LOW {
+        if number < self.limit {
             return number as usize >= self.low.len();
         }
         self.high.is_stranger(number)

@@ -1,5 +1,5 @@
 //! A table by numbers of which few are in use, with each row in one place of memory.
-ghost use Rattle.std.specs.Prelude.{◌≡◌, ◌≤◌, ◌<◌, ◌^◌, ℕ, length, nat_eq, false, OnOk, OnErr, IfOk, IsSome, Some, None, unwrap_or, if◌then◌else◌};
+ghost use Rattle.std.specs.Prelude.{◌≡◌, ◌≤◌, ◌<◌, ◌^◌, ℕ, length, nat_eq, true, false, OnOk, OnErr, IfOk, IsSome, Some, None, unwrap_or, if◌then◌else◌};
 ghost use Rattle.cw_tables.specs.Sparse.{AllReached, IsPlaceOf, has_number, home_of, is_other, listed, slot_at, value_in};
 ghost use Rattle.std.specs.Option.{option_copied_mut};
 ghost use Rattle.std.proofs.Props.{props};
@@ -63,6 +63,14 @@ impl<V: Copy + Drop> Sparse<V> {
             shift: FIRST_SHIFT,
             room: FIRST_ROOM,
         }
+    }
+
+    /// Whether it has no place yet, and so no row.
+    #[inline]
+    pub fn is_empty(&self) -> bool
+        ensures { result ≡ true → (q : ℕ) → listed self.now.slots.items q ≡ None }
+    {
+        self.slots.is_empty()
     }
 
     /// The row of a number.

@@ -98,3 +98,25 @@ fn great_numbers_keep_their_rows_while_the_table_grows(rt: HostRuntime) -> Resul
     }
     Ok(())
 }
+
+#[test]
+fn a_list_in_use_takes_the_numbers_behind_it(rt: HostRuntime) -> Result<(), Fail> {
+    let mut table: Numbered<u32> = Numbered::new(rt.alloc());
+    for place in 0..1 << 18 {
+        table.make(4 * place + 3, 0)?;
+        table.set(4 * place + 3, place);
+    }
+    let limit = 1 << 20;
+    assert_eq!(rt; table.get(limit), None);
+    table.make(limit, 0)?;
+    table.set(limit, 7);
+    table.make(4 * limit, 0)?;
+    table.make(2 * limit, 0)?;
+    table.set(2 * limit, 8);
+    assert_eq!(rt; table.get(limit - 1), Some((1 << 18) - 1));
+    assert_eq!(rt; table.get(limit), Some(7));
+    assert_eq!(rt; table.get(limit + 1), None);
+    assert_eq!(rt; table.get(2 * limit), Some(8));
+    assert_eq!(rt; table.get(4 * limit), Some(0));
+    Ok(())
+}
