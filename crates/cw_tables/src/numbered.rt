@@ -82,11 +82,13 @@ impl<V: Copy + Drop> Numbered<V> {
         if number >= self.limit {
             self.raise_limit();
         }
-        if number < self.limit {
-            self.lengthened = self.lengthened.saturating_add(1);
-            return reach(&mut self.low, number, missing);
+        if number >= self.limit {
+            return self.high.make(number, missing);
         }
-        self.high.make(number, missing)
+        if number as usize >= self.low.len() {
+            self.lengthened = self.lengthened.saturating_add(1);
+        }
+        reach(&mut self.low, number, missing)
     }
 
     // Doubles the limit where the list has reached it with a quarter of its places in use, so that it takes memory by
