@@ -132,11 +132,11 @@ impl<V: Copy + Drop> Sparse<V> {
         !has_row_of(&self.slots, home(number, self.shift), number)
     }
 
-    /// Makes room for so many rows more, or for some of them. The table reads as before.
+    /// Makes room for so many rows more, or for some of them, where it has any. The table reads as before.
     pub fn make_room(&mut self, rows: usize) -> Result<(), AllocError>
         ensures { (q : ℕ) → listed self.new.slots.items q ≡ listed self.old.slots.items q }
     {
-        if self.room < rows {
+        if self.room < rows && !self.is_empty() {
             self.grow()?;
         }
         Ok(())
