@@ -139,7 +139,7 @@ fn read_bodies<D: Disk>(
     ensures reads { Reads D.holds D.may_leave D.moment D.left_since D.count D.reserved log.old.disk log.new.disk }
 {
     let mut reading = Reading {
-        replay: Replay::new(alloc),
+        replay: Replay::new(alloc, size),
         at: 16,
     };
     let mut body = Vec::new(alloc);

@@ -1,5 +1,5 @@
 -- What a table by hashes lists once a row was set where a look-up of its number ends.
-use Rattle.std.proofs.Common.{◌≡◌, ◌≢◌, ◌≤◌, ◌<◌, ◌⊎◌, ◌∙◌, inl, inr, ℕ, Bool, true, false, not, cond, List, length, set, Option, Some, IsSome, refl, sym, ap, subst, arith, nat_eq}
+use Rattle.std.proofs.Common.{◌≡◌, ◌≢◌, ◌≤◌, ◌<◌, ◌⊎◌, ◌∙◌, inl, inr, ℕ, Bool, true, false, not, cond, List, length, set, Some, None, refl, sym, ap, subst, arith, nat_eq}
 use Rattle.std.proofs.lemmas.Bool.{cases_order, eqb-true}
 use Rattle.std.proofs.lemmas.Bool.Decides.{nat_tests}
 use Rattle.std.proofs.lemmas.List.{get_or-set_same, get_or-set_other}
@@ -155,17 +155,15 @@ module _ {V : Type 0} (before after : List (Slot V)) (shift : ℕ) (same : (k : 
     here = ap (is_other m) (same k) ∙ place.here;
   }
 
--- a row of a number is none of another, and has a value
-row_of : {V : Type 0} (number : ℕ) (slot : Slot V) → not (has_number number slot) ≡ false → (is_other number slot ≡ false) × IsSome (value_in slot)
-row_of number Empty has = absurd cc
-row_of number (Row own value) has = (has, refl)
-
--- a number whose row stands at its home is listed
-pub listed_at_home : {V : Type 0} (slots : List (Slot V)) (shift number : ℕ) → AllReached slots shift → not (has_number number (slot_at slots (home_of number shift))) ≡ false → IsSome (listed slots number)
-listed_at_home {V} slots shift number all has =
-    let row = row_of number (slot_at slots (home_of number shift)) has in
+-- a number whose home is free is not listed
+pub unlisted_at_home : {V : Type 0} (slots : List (Slot V)) (shift number : ℕ) → AllReached slots shift → value_in (slot_at slots (home_of number shift)) ≡ None → listed slots number ≡ None
+unlisted_at_home {V} slots shift number all none =
     let place : IsPlaceOf slots shift number (home_of number shift) = record {
       reached = record { from = omega arith; others = λ k from before. absurd (omega (arith, from, before)) };
-      here = row.0;
+      here = empty_here number (slot_at slots (home_of number shift)) none;
     } in
-    subst (λ (o : Option V). IsSome o) (sym (listed_here slots shift number (home_of number shift) all place)) row.1
+    listed_here slots shift number (home_of number shift) all place ∙ none
+  where
+    empty_here : (number : ℕ) (slot : Slot V) → value_in slot ≡ None → is_other number slot ≡ false
+    empty_here number Empty none = refl
+    empty_here number (Row own value) none = absurd cc

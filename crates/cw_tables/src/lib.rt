@@ -4,6 +4,7 @@
 //! It stands on std alone.
 #![tactic(auto)]
 
+mod forecast;
 pub mod hashed;
 mod numbered;
 mod rows;
@@ -11,5 +12,6 @@ mod sparse;
 #[cfg(test)]
 mod tests;
 
+pub use forecast::{Forecast, Glance};
 pub use numbered::Numbered;
 pub use rows::{has_row, make_row, set_row, value_at};

@@ -1,6 +1,7 @@
 //! A table by numbers, most of which are small.
-ghost use Rattle.std.specs.Prelude.{◌≡◌, ℕ, nat_eq, false, OnOk, IsSome, Some, unwrap_or, if◌then◌else◌};
+ghost use Rattle.std.specs.Prelude.{◌≡◌, ◌<◌, ℕ, nat_eq, nat_lt, true, length, OnOk, IsSome, Some, None, unwrap_or, if◌then◌else◌};
 
+use crate::forecast::{Forecast, Glance};
 use crate::sparse::Sparse;
 use std::alloc::{AllocError, Global};
 
@@ -79,12 +80,44 @@ impl<V: Copy + Drop> Numbered<V> {
         ensures kept { (q : ℕ) → IsSome (numbered_row self.old q) → IsSome (numbered_row self.new q) }
         ensures there { OnOk result (IsSome (numbered_row self.new number)) }
     {
+        if self.is_listed(number) {
+            return self.lengthen(number, missing);
+        }
+        self.high.make(number, missing)
+    }
+
+    /// Sets the value of a number, which should have no row yet, in a new row, and may make others, each of which reads
+    /// as a missing one.
+    pub fn insert(&mut self, number: u32, value: V, missing: V) -> Result<(), AllocError>
+        ensures { OnOk result ((q : ℕ) → unwrap_or (numbered_row self.new q) missing ≡ (if nat_eq number q then value else unwrap_or (numbered_row self.old q) missing)) }
+    {
+        if self.is_listed(number) {
+            self.lengthen(number, missing)?;
+            self.low[number as usize] = value;
+            return Ok(());
+        }
+        self.high.insert(number, value)
+    }
+
+    // Whether a number is a place of the list, which may raise the limit. The table reads as before.
+    fn is_listed(&mut self, number: u32) -> bool
+        ensures same { (q : ℕ) → numbered_row self.new q ≡ numbered_row self.old q }
+        ensures listed { result ≡ nat_lt number self.new.limit }
+    {
         if number >= self.limit {
             self.raise_limit();
         }
-        if number >= self.limit {
-            return self.high.make(number, missing);
-        }
+        number < self.limit
+    }
+
+    // A list that reaches a number's place.
+    fn lengthen(&mut self, number: u32, missing: V) -> Result<(), AllocError>
+        requires { number < self.old.limit }
+        ensures same { (q : ℕ) → unwrap_or (numbered_row self.new q) missing ≡ unwrap_or (numbered_row self.old q) missing }
+        ensures kept { (q : ℕ) → IsSome (numbered_row self.old q) → IsSome (numbered_row self.new q) }
+        ensures there { OnOk result (number < length self.new.low.items) }
+        ensures limit { self.new.limit ≡ self.old.limit }
+    {
         if number as usize >= self.low.len() {
             self.lengthened = self.lengthened.saturating_add(1);
         }
@@ -102,27 +135,33 @@ impl<V: Copy + Drop> Numbered<V> {
         }
     }
 
-    /// Whether a number may have no row, told by one look: where it answers `false` there is a row. A processor waits for
-    /// the memory of many such looks at once, and finds it near when the rows are changed.
+    /// Whether the place of a number is free, so that it has no row, told by one look. A processor waits for the memory of
+    /// many such looks at once, and finds it near when the rows are changed.
     #[inline]
-    pub fn may_be_new(&self, number: u32) -> bool
-        ensures { result ≡ false → IsSome (numbered_row self.now number) }
+    pub fn is_free(&self, number: u32) -> bool
+        ensures { result ≡ true → numbered_row self.now number ≡ None }
     {
         if number < self.limit {
             return number as usize >= self.low.len();
         }
-        self.high.is_stranger(number)
+        self.high.is_free(number)
     }
 
-    /// Makes room for so many new rows, or for some of them. The table reads as before.
-    pub fn make_room(&mut self, rows: usize) -> Result<(), AllocError>
+    /// Whether the numbers of a glance may need more room than there is. Numbers of the list never do.
+    #[inline]
+    pub fn lacks_room(&self, glance: &Glance) -> bool {
+        self.high.lacks_room(glance.new_rows())
+    }
+
+    /// Makes room for the rows of a forecast, or for some of them. The table reads as before.
+    pub fn make_room(&mut self, forecast: &Forecast) -> Result<(), AllocError>
         ensures { (q : ℕ) → numbered_row self.new q ≡ numbered_row self.old q }
     {
-        self.high.make_room(rows)
+        self.high.make_room(forecast)
     }
 }
 
-ghost use Rattle.std.specs.Prelude.{◌<◌, slice_get, length};
+ghost use Rattle.std.specs.Prelude.{slice_get};
 
 // A list that reaches a place, and reads as before where a missing value is this one.
 fn reach<V: Copy + Drop>(list: &mut Vec<V>, place: u32, missing: V) -> Result<(), AllocError>

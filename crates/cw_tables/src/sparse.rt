@@ -1,16 +1,14 @@
 //! A table by numbers of which few are in use, with each row in one place of memory.
 ghost use Rattle.std.specs.Prelude.{◌≡◌, ◌≤◌, ◌<◌, ◌^◌, ℕ, length, nat_eq, true, false, OnOk, OnErr, IfOk, IsSome, Some, None, unwrap_or, if◌then◌else◌};
-ghost use Rattle.cw_tables.specs.Sparse.{AllReached, IsPlaceOf, has_number, home_of, is_other, listed, slot_at, value_in};
+ghost use Rattle.cw_tables.specs.Sparse.{AllReached, IsPlaceOf, home_of, is_other, listed, slot_at, value_in};
 ghost use Rattle.std.specs.Option.{option_copied_mut};
 ghost use Rattle.std.proofs.Props.{props};
 
+use crate::forecast::Forecast;
 use std::alloc::{AllocError, Global};
 
 // A table begins with 16 homes.
 const FIRST_SHIFT: u32 = 28;
-
-// Three quarters of them may have rows.
-const FIRST_ROOM: usize = 12;
 
 // Places behind the last home, for rows that find none at theirs: as many as there are homes, but at most these.
 const MARGIN: usize = 1024;
@@ -47,8 +45,8 @@ pub struct Sparse<V> {
     slots: Vec<Slot<V>>,
     // a home is a hash shifted by this to the right, so that there are 2^(32 - shift) of them
     shift: u32,
-    // rows that may come before the homes are doubled, which keeps a quarter of them free
-    room: usize,
+    // rows that were put, at most three quarters as many as there are homes
+    rows: usize,
     ghost shifts: { shift < 32 },
     ghost reached: { AllReached slots.items shift } by { Prim.hlevel props },
 }
@@ -61,7 +59,7 @@ impl<V: Copy + Drop> Sparse<V> {
         Sparse {
             slots: Vec::new(alloc),
             shift: FIRST_SHIFT,
-            room: FIRST_ROOM,
+            rows: 0,
         }
     }
 
@@ -116,60 +114,75 @@ impl<V: Copy + Drop> Sparse<V> {
         if self.get(number).is_some() {
             return Ok(());
         }
-        if self.room == 0 {
-            self.grow()?;
+        self.insert(number, missing)
+    }
+
+    /// Sets the row of a number, which should have none yet: one that has a row counts as a row more.
+    pub fn insert(&mut self, number: u32, value: V) -> Result<(), AllocError>
+        ensures put { OnOk result ((q : ℕ) → listed self.new.slots.items q ≡ (if nat_eq number q then Some value else listed self.old.slots.items q)) }
+        ensures same { OnErr result ((q : ℕ) → listed self.new.slots.items q ≡ listed self.old.slots.items q) }
+    {
+        if self.rows >= most_rows(self.shift) {
+            self.grow(0)?;
         }
-        self.put(number, missing)?;
-        self.room = self.room.saturating_sub(1);
+        self.put(number, value)?;
+        self.rows = self.rows.saturating_add(1);
         Ok(())
     }
 
-    /// Whether a number has no row at its home, as those have that came first there. It costs one look at the table.
+    /// Whether a number's home is free, so that it has no row. It costs one look at the table.
     #[inline]
-    pub fn is_stranger(&self, number: u32) -> bool
-        ensures { result ≡ false → IsSome (listed self.now.slots.items number) }
+    pub fn is_free(&self, number: u32) -> bool
+        ensures { result ≡ true → listed self.now.slots.items number ≡ None }
     {
-        !has_row_of(&self.slots, home(number, self.shift), number)
+        is_empty_at(&self.slots, home(number, self.shift))
     }
 
-    /// Makes room for so many rows more, or for some of them, where it has any. The table reads as before.
-    pub fn make_room(&mut self, rows: usize) -> Result<(), AllocError>
+    /// Whether the table is to grow before so many rows come.
+    #[inline]
+    pub fn lacks_room(&self, rows: usize) -> bool {
+        self.rows.saturating_add(rows) > most_rows(self.shift) && !self.is_empty()
+    }
+
+    /// Makes room for the new rows that come now, where it has any rows and no room for them; for as many as are
+    /// expected then. The table reads as before.
+    pub fn make_room(&mut self, forecast: &Forecast) -> Result<(), AllocError>
         ensures { (q : ℕ) → listed self.new.slots.items q ≡ listed self.old.slots.items q }
     {
-        if self.room < rows && !self.is_empty() {
-            self.grow()?;
+        if self.lacks_room(forecast.new_rows()) {
+            self.grow(self.rows.saturating_add(forecast.rows_behind(self.rows)))?;
         }
         Ok(())
     }
 
-    // Doubles the homes, where they can be.
-    fn grow(&mut self) -> Result<(), AllocError>
+    // Homes for so many rows, and twice as many as there are at the least, where there can be more.
+    fn grow(&mut self, rows: usize) -> Result<(), AllocError>
         ensures { (q : ℕ) → listed self.new.slots.items q ≡ listed self.old.slots.items q }
     {
         if self.shift == 0 {
-            self.room = usize::MAX;
             return Ok(());
         }
-        *self = self.widened()?;
+        *self = self.widened(shift_for(rows).min(self.shift - 1))?;
         Ok(())
     }
 
-    // The same rows over twice the homes.
-    fn widened(&self) -> Result<Sparse<V>, AllocError>
-        requires { 0 < self.now.shift }
+    // The same rows over homes of another number.
+    fn widened(&self, shift: u32) -> Result<Sparse<V>, AllocError>
+        requires { shift < 32 }
         ensures { IfOk result (λ wider. (q : ℕ) → listed wider.slots.items q ≡ listed self.now.slots.items q) }
     {
-        let mut wider = Sparse::empty(*self.slots.allocator(), self.shift - 1)?;
+        let mut wider = Sparse::empty(*self.slots.allocator(), shift)?;
         for slot in &self.slots {
             match slot {
                 Slot::Empty => continue,
                 Slot::Row { number, value } => wider.put(*number, *value)?,
             }
         }
+        wider.rows = self.rows;
         Ok(wider)
     }
 
-    // Empty places for each home, with room for as many rows as half of the homes take.
+    // Empty places for each home, and for some behind them.
     fn empty(alloc: Global, shift: u32) -> Result<Sparse<V>, AllocError>
         requires { shift < 32 }
         ensures { IfOk result (λ table. (q : ℕ) → listed table.slots.items q ≡ None) }
@@ -180,7 +193,7 @@ impl<V: Copy + Drop> Sparse<V> {
         Ok(Sparse {
             slots,
             shift,
-            room: homes / 8 * 3,
+            rows: 0,
         })
     }
 
@@ -207,6 +220,21 @@ fn home(number: u32, shift: u32) -> usize
     (number.wrapping_mul(0x9E37_79B1) >> shift) as usize
 }
 
+// How many rows so many homes may have, which keeps a quarter of them free.
+#[inline]
+fn most_rows(shift: u32) -> usize
+    requires { shift < 32 }
+{
+    (1usize << (32 - shift)) / 4 * 3
+}
+
+// A shift for which so many rows have homes.
+fn shift_for(rows: usize) -> u32 {
+    (rows.saturating_add(rows / 3) as u64)
+        .leading_zeros()
+        .saturating_sub(32)
+}
+
 // Whether a place has the row of another number.
 #[inline]
 fn holds_other<V: Copy + Drop>(slots: &[Slot<V>], at: usize, number: u32) -> bool
@@ -218,14 +246,14 @@ fn holds_other<V: Copy + Drop>(slots: &[Slot<V>], at: usize, number: u32) -> boo
     }
 }
 
-// Whether a place has the row of this number.
+// Whether a place has no row. No branch of a processor waits for the place.
 #[inline]
-fn has_row_of<V: Copy + Drop>(slots: &[Slot<V>], at: usize, number: u32) -> bool
-    ensures { result ≡ has_number number (slot_at slots.now at) }
+fn is_empty_at<V: Copy + Drop>(slots: &[Slot<V>], at: usize) -> bool
+    ensures { result ≡ true → value_in (slot_at slots.now at) ≡ None }
 {
     match slots.get(at) {
-        Some(Slot::Row { number: other, .. }) => *other == number,
-        _ => false,
+        Some(slot) => matches!(slot, Slot::Empty),
+        None => true,
     }
 }
 

@@ -1,6 +1,6 @@
 //! Each call once with ample memory.
 
-use crate::{Numbered, has_row, hashed, make_row, set_row, value_at};
+use crate::{Forecast, Glance, Numbered, has_row, hashed, make_row, set_row, value_at};
 use std::collections::{BTreeMap, HashMap};
 use std::test::Fail;
 
@@ -51,8 +51,13 @@ fn small_and_great_numbers_have_rows_of_one_table(rt: HostRuntime) -> Result<(),
     for number in [5, 1_048_575, 1_048_576, u32::MAX] {
         assert_eq!(rt; table.get(number), Some(number as u64));
     }
+    for number in [4, 1_048_574, 1_048_577, 1 << 31] {
+        table.insert(number, number as u64, 3)?;
+        assert_eq!(rt; table.get(number), Some(number as u64));
+    }
+    assert_eq!(rt; table.get(5), Some(5));
     assert_eq!(rt; table.get(6).unwrap_or(3), 3);
-    assert_eq!(rt; table.get(1_048_577), None);
+    assert_eq!(rt; table.get(1_048_578), None);
     Ok(())
 }
 
@@ -78,9 +83,17 @@ fn great_numbers_keep_their_rows_while_the_table_grows(rt: HostRuntime) -> Resul
         table.set(number, number as u64);
     }
     assert_eq!(rt; table.get(u32::MAX), Some(u32::MAX as u64));
-    table.make_room(5000)?;
-    assert!(rt; table.may_be_new((1 << 21) + 1));
-    assert!(rt; table.may_be_new(5));
+    let mut forecast = Forecast::NONE;
+    for place in 0..5000 {
+        forecast.count(place % 2 == 0);
+    }
+    forecast.go_on(5000, 50_000);
+    table.make_room(&forecast)?;
+    assert!(rt; table.is_free(5));
+    assert_eq!(rt; table.is_free(u32::MAX), false);
+    let mut glance = Glance::NONE;
+    glance.note(true);
+    assert_eq!(rt; table.lacks_room(&glance), false);
     for place in 0..4000 {
         let number = great(place);
         assert_eq!(rt; table.get(number), Some(number as u64));

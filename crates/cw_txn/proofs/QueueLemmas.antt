@@ -1,6 +1,6 @@
 -- Entries that wait behind a walk, and are taken one after the other.
-use Rattle.std.proofs.Common.{◌≡◌, ℕ, suc, ◌+◌, ◌-◌, ◌<◌, List, [], ◌∷◌, ◌++◌, length, take, map, replicate, Option, Some, None, refl, sym, ap, subst, ◌∙◌, arith, append_assoc, length-append}
-use Rattle.std.proofs.lemmas.List.{append-nil, replicate_more, take_more as take-more}
+use Rattle.std.proofs.Common.{◌≡◌, ℕ, ◌+◌, ◌-◌, List, [], ◌∷◌, ◌++◌, length, take, map, replicate, Option, Some, None, refl, sym, ap, subst, ◌∙◌, append_assoc, length-append}
+use Rattle.std.proofs.lemmas.List.{append-nil, replicate_more}
 use Rattle.cw_bytes.specs.Unread.{Unread, AreBytes}
 use Rattle.cw_bytes.specs.Reading.{many_at}
 use Rattle.cw_bytes.proofs.Many.{with_front}

@@ -39,7 +39,7 @@ module _ (tables : Tables) (entries reserved : List Entry) (count : ℕ) (was : 
   }
 
   -- with an entry reserved
-  pub reserved_one : (entry : Entry) (more : List Entry) → more ≡ reserved ++ entry ∷ [] → HasRows tables entry → length entries + length reserved < 2 ^ 63 → IsCoordinator tables entries more count
+  pub reserved_one : (entry : Entry) (more : List Entry) → more ≡ reserved ++ entry ∷ [] → HasRows tables entry → length entries + length reserved < 2 ^ 31 → IsCoordinator tables entries more count
   reserved_one entry more is has room = rw is record {
     legal = was.legal;
     chains = was.chains;
@@ -52,7 +52,7 @@ module _ (tables : Tables) (entries reserved : List Entry) (count : ℕ) (was : 
   -- with an entry written
   pub settled : (now : Tables) (entry written : Entry) (longer held rest : List Entry) (more : ℕ) → longer ≡ entries ++ entry ∷ [] → Keeps now longer → KeepsRows tables now
       → entries ≡ held → entry ≡ written → IsLegalBehind held written → ((part : PartKey) → ChainsBehind part held written)
-      → ((e : Entry) → Contains rest e → Contains reserved e) → more ≡ count + 1 → length entries + 1 + length rest ≤ 2 ^ 63
+      → ((e : Entry) → Contains rest e → Contains reserved e) → more ≡ count + 1 → length entries + 1 + length rest ≤ 2 ^ 31
       → IsCoordinator now longer rest more
   settled now entry written longer held rest more is kept keeps same one legal chains fewer counted room = record {
     legal = subst IsLegal (sym is) (Each-push IsLegalBehind entries entry was.legal

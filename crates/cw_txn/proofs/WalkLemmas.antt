@@ -1,21 +1,15 @@
 -- One entry more on a walk over a list.
-use Rattle.std.proofs.Common.{◌≡◌, ℕ, suc, ◌+◌, ◌-◌, ◌<◌, ◌≤◌, ◌^◌, List, [], ◌∷◌, ◌++◌, length, replicate, get_or, slice_index_or, Option, Some, None, is_some, true, false, refl, ap, subst, ◌∙◌, arith, append_assoc, length-append}
-use Rattle.std.proofs.lemmas.List.{get_or_append_left, get_or-append-add, replicate_more}
+use Rattle.std.proofs.Common.{◌≡◌, ℕ, suc, ◌+◌, ◌<◌, ◌≤◌, ◌^◌, List, [], ◌∷◌, ◌++◌, length, get_or, slice_index_or, Option, Some, None, is_some, true, false, refl, ap, subst, ◌∙◌, arith, append_assoc, length-append}
+use Rattle.std.proofs.lemmas.List.{get_or_append_left, get_or-append-add}
 use Rattle.cw_types.specs.declared.ids.PartKey.{PartKey}
-use Rattle.cw_bytes.specs.Unread.{Unread, AreBytes}
-use Rattle.cw_bytes.specs.Reading.{many_at}
-use Rattle.cw_bytes.proofs.Many.{with_front}
-use Rattle.cw_txn.specs.BodyReading.{entry_at, body_at}
-use Rattle.cw_txn.specs.Replayed.{Replayed, TakesBody}
 use Rattle.cw_txn.specs.declared.entry.Entry.{Entry}
 use Rattle.cw_txn.specs.declared.tables.Tables.{Tables}
 use Rattle.cw_txn.specs.declared.walk.Walk.{Walk}
 use Rattle.cw_txn.specs.Legal.{Chains, ChainsBehind}
 use Rattle.cw_txn.specs.Allowed.{IsAllowedBehind, AreAllowed, IsFirstNotAllowed, IsFirstUnchained}
 use Rattle.cw_txn.specs.Tables.{Keeps, IsCoordinator}
-use Rattle.cw_txn.specs.Walk.{HasGate, ChainsUpTo, AreWalked, Found, Walked, Took}
+use Rattle.cw_txn.specs.Walk.{HasGate, ChainsUpTo, AreWalked, Found, Walked}
 use Rattle.cw_txn.proofs.Walks.{Each-push}
-use Rattle.cw_txn.proofs.Bodies.{body_takes}
 use Rattle.cw_txn.proofs.AllowedLemmas.{allowed_is_legal}
 
 module _ (entries : List Entry) (gates : List ℕ) (entry : Entry) (gate : ℕ) (aligned : length gates ≡ length entries) where
@@ -141,7 +135,7 @@ module _ (walk : Walk) (walked : Walked walk) where
 
 -- a walk that found no fault is a coordinator's
 coordinates : (not_allowed unchained : Option ℕ) (tables : Tables) (entries : List Entry) (gates : List ℕ) (count : ℕ) → Found not_allowed tables entries gates unchained
-    → not_allowed ≡ None → unchained ≡ None → count ≡ length entries → count ≤ 2 ^ 63 → IsCoordinator tables entries [] count
+    → not_allowed ≡ None → unchained ≡ None → count ≡ length entries → count ≤ 2 ^ 31 → IsCoordinator tables entries [] count
 coordinates None None tables entries gates count found allowed chained counted few = record {
   legal = allowed_is_legal entries found.allowed;
   chains = found.chained;

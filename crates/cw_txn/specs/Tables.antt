@@ -72,4 +72,4 @@ pub record IsCoordinator (tables : Tables) (entries reserved : List Entry) (coun
   pub kept : Keeps tables entries
   pub rows : (entry : Entry) → Contains reserved entry → HasRows tables entry
   pub counted : count ≡ length entries
-  pub few : length entries + length reserved ≤ 2 ^ 63
+  pub few : length entries + length reserved ≤ 2 ^ 31

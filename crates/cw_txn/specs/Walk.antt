@@ -57,7 +57,7 @@ Found (Some gate) tables entries gates unchained = HasGate (IsFirstNotAllowed en
 -- a walk knows how many entries it has taken, and what it found in them
 pub record Walked (walk : Walk) : Type 0 where
   pub counted : walk.length ≡ length walk.entries.items
-  pub few : walk.length ≤ 2 ^ 63
+  pub few : walk.length ≤ 2 ^ 31
   pub aligned : length walk.gates.items ≡ length walk.entries.items
   pub found : Found walk.not_allowed walk.tables walk.entries.items walk.gates.items walk.unchained
 

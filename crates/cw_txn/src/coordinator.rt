@@ -17,8 +17,8 @@ use cw_types::{Decided, Epoch, Name, PartKey, Past, Span, Tag, Tid, Verdict};
 use std::alloc::{AllocError, Global};
 use std::marker::Model;
 
-// A list has at most so many entries, counting those that are reserved, so that its length and every epoch fit a u64.
-pub const MOST_ENTRIES: u64 = 1 << 63;
+// A list has at most so many entries, counting those that are reserved, so that each epoch fits a u32.
+pub const MOST_ENTRIES: u64 = 1 << 31;
 
 /// Why an entry wasn't written.
 #[derive(Clone, Copy, Debug, PartialEq, Eq, Drop)]
@@ -45,7 +45,7 @@ impl From<AllocError> for TxnFault {
 
 /// The list of all that was bumped, committed and set, and what follows from it. At run time it keeps only
 /// what follows from it and the list's length, no entry. Look-ups take no memory.
-/// It has at most 2^63 entries, counting those that are reserved; one more is answered with want of memory.
+/// It has at most 2^31 entries, counting those that are reserved; one more is answered with want of memory.
 #[derive(Drop)]
 pub struct Coordinator {
     alloc: Global,
@@ -364,7 +364,7 @@ fn place_of(entries: &[Entry], entry: &EntryRef<'_>) -> Option<usize>
 
 // Rows for an entry, which change no meaning, where one more than those counted may be held.
 fn make_room(tables: &mut Tables, counted: u64, entry: &EntryRef<'_>) -> Result<(), AllocError>
-    ensures few { OnOk result (counted < 2 ^ 63) }
+    ensures few { OnOk result (counted < 2 ^ 31) }
     ensures same { SameRows tables.old tables.new }
     ensures kept { KeepsRows tables.old tables.new }
     ensures there { OnOk result (HasRows tables.new (entry_of entry.now)) }
@@ -378,7 +378,7 @@ fn make_room(tables: &mut Tables, counted: u64, entry: &EntryRef<'_>) -> Result<
 // Writes an entry for which there is room.
 fn settle(tables: &mut Tables, entries: &mut Past<Entry>, count: &mut u64, entry: &Entry)
     requires counted { count.old ≡ length entries.old.items }
-    requires few { count.old < 2 ^ 63 }
+    requires few { count.old < 2 ^ 31 }
     requires rows { HasRows tables.old entry.now }
     requires kept { Keeps tables.old entries.old.items }
     ensures written { entries.new.items ≡ entries.old.items ++ entry.now ∷ [] }

@@ -4,8 +4,8 @@ ghost use Rattle.std.specs.HashMap.{get};
 ghost use Rattle.cw_types.specs.declared.ids.Tid.{Tid};
 ghost use Rattle.cw_types.specs.Same.{same_tid};
 
-use cw_tables::Numbered;
 use cw_tables::hashed::{has_row, make_row, value_at};
+use cw_tables::{Forecast, Glance, Numbered};
 use cw_types::Tid;
 use std::alloc::{AllocError, Global};
 use std::collections::HashMap;
@@ -13,7 +13,7 @@ use std::collections::HashMap;
 // The epoch of each producer. Those of scripts are found by their numbers alone, which keeps their rows small.
 #[derive(Drop)]
 pub struct Epochs {
-    pub numbered: Numbered<u64>,
+    pub numbered: Numbered<u32>,
     pub named: HashMap<Tid, u64>,
 }
 
@@ -36,26 +36,30 @@ impl Epochs {
         match tid {
             Tid::Lead => value_at(&self.named, tid, 0),
             Tid::Task(_) => value_at(&self.named, tid, 0),
-            Tid::Raw(number) => self.numbered.get(*number).unwrap_or(0),
+            Tid::Raw(number) => self.numbered.get(*number).unwrap_or(0) as u64,
         }
     }
 
-    // Whether a producer is a script's that may have no row, told by one look.
+    // Looks for the row of a script's producer.
     #[inline]
-    pub fn may_be_new(&self, tid: &Tid) -> bool
-        ensures { (n : ℕ) → tid.now ≡ Tid.Raw n → result ≡ false → IsSome (epoch_row self.now tid.now) }
-    {
-        match tid {
-            Tid::Raw(number) => self.numbered.may_be_new(*number),
-            _ => false,
+    pub fn glance(&self, tid: &Tid, glance: &mut Glance) {
+        if let Tid::Raw(number) = tid {
+            glance.note(self.numbered.is_free(*number));
         }
     }
 
-    // Makes room for so many scripts' producers more, or for some of them. The table is as before.
-    pub fn make_room(&mut self, rows: usize) -> Result<(), AllocError>
+    // Counts a script's producer, which is new or not.
+    pub fn count(&self, tid: &Tid, forecast: &mut Forecast) {
+        if let Tid::Raw(number) = tid {
+            forecast.count(self.numbered.get(*number).is_none());
+        }
+    }
+
+    // Makes room for the scripts' producers of a forecast, or for some of them. The table is as before.
+    pub fn make_room(&mut self, forecast: &Forecast) -> Result<(), AllocError>
         ensures { (q : Tid) → epoch_row self.new q ≡ epoch_row self.old q }
     {
-        self.numbered.make_room(rows)
+        self.numbered.make_room(forecast)
     }
 
     // A row for a producer. The table reads as before.
@@ -73,7 +77,7 @@ impl Epochs {
 
     // Raises the epoch of a producer that has a row, and says whether it has one.
     pub fn raise(&mut self, tid: &Tid) -> bool
-        requires { (q : Tid) → epoch_at self.old q + 1 < 2 ^ 64 }
+        requires { (q : Tid) → epoch_at self.old q + 1 < 2 ^ 32 }
         ensures there { result ≡ is_some (epoch_row self.old tid.now) }
         ensures raised { (q : Tid) → epoch_row self.new q ≡ (if result && same_tid tid.now q then Some (epoch_at self.old tid.now + 1) else epoch_row self.old q) }
     {
@@ -86,15 +90,25 @@ impl Epochs {
 
     // The epoch of a producer is one higher, in its row or in a new one.
     pub fn put(&mut self, tid: &Tid) -> Result<(), AllocError>
-        requires { (q : Tid) → epoch_at self.old q + 1 < 2 ^ 64 }
+        requires { (q : Tid) → epoch_at self.old q + 1 < 2 ^ 32 }
         ensures { OnOk result ((q : Tid) → epoch_at self.new q ≡ (if same_tid q tid.now then epoch_at self.old q + 1 else epoch_at self.old q)) }
     {
         if self.raise(tid) {
             return Ok(());
         }
-        self.make(tid)?;
-        let _ = self.raise(tid);
-        Ok(())
+        self.begin(tid)
+    }
+
+    // The first epoch of a producer that has no row.
+    fn begin(&mut self, tid: &Tid) -> Result<(), AllocError>
+        requires { epoch_row self.old tid.now ≡ None }
+        ensures { OnOk result ((q : Tid) → epoch_at self.new q ≡ (if same_tid q tid.now then 1 else epoch_at self.old q)) }
+    {
+        match tid {
+            Tid::Lead => begin_name(&mut self.named, tid),
+            Tid::Task(_) => begin_name(&mut self.named, tid),
+            Tid::Raw(number) => self.numbered.insert(*number, 1, 0),
+        }
     }
 }
 
@@ -113,8 +127,16 @@ fn make_named(rows: &mut HashMap<Tid, u64>, tid: &Tid) -> Result<(), AllocError>
     make_row(rows, tid.copy()?, 0)
 }
 
-fn raise_number(rows: &mut Numbered<u64>, number: u32) -> bool
-    requires { unwrap_or (numbered_row rows.old number) 0 + 1 < 2 ^ 64 }
+fn begin_name(rows: &mut HashMap<Tid, u64>, tid: &Tid) -> Result<(), AllocError>
+    requires { get tid_eq rows.old tid.now ≡ None }
+    ensures { OnOk result ((q : Tid) → get tid_eq rows.new q ≡ (if tid_eq tid.now q then Some 1 else get tid_eq rows.old q)) }
+{
+    rows.insert(tid.copy()?, 1)?;
+    Ok(())
+}
+
+fn raise_number(rows: &mut Numbered<u32>, number: u32) -> bool
+    requires { unwrap_or (numbered_row rows.old number) 0 + 1 < 2 ^ 32 }
     ensures there { result ≡ is_some (numbered_row rows.old number) }
     ensures raised { (q : ℕ) → numbered_row rows.new q ≡ (if result && nat_eq number q then Some (unwrap_or (numbered_row rows.old number) 0 + 1) else numbered_row rows.old q) }
 {
@@ -128,7 +150,7 @@ fn raise_number(rows: &mut Numbered<u64>, number: u32) -> bool
 }
 
 fn raise_name(rows: &mut HashMap<Tid, u64>, tid: &Tid) -> bool
-    requires { unwrap_or (get tid_eq rows.old tid.now) 0 + 1 < 2 ^ 64 }
+    requires { unwrap_or (get tid_eq rows.old tid.now) 0 + 1 < 2 ^ 32 }
     ensures there { result ≡ is_some (get tid_eq rows.old tid.now) }
     ensures raised { (q : Tid) → get tid_eq rows.new q ≡ (if result && tid_eq tid.now q then Some (unwrap_or (get tid_eq rows.old tid.now) 0 + 1) else get tid_eq rows.old q) }
 {

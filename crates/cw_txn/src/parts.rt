@@ -6,8 +6,8 @@ ghost use Rattle.cw_tables.specs.Numbered.{numbered_row};
 ghost use Rattle.cw_types.specs.Same.{same_part, part_eq};
 ghost use Rattle.cw_txn.specs.History.{unset, after_span, GoesOn};
 
-use cw_tables::Numbered;
 use cw_tables::hashed::{has_row, make_row, set_row, value_at};
+use cw_tables::{Forecast, Glance, Numbered};
 use cw_types::{PartKey, Span};
 use std::alloc::{AllocError, Global};
 use std::collections::HashMap;
@@ -62,22 +62,26 @@ impl Parts {
         }
     }
 
-    // Whether a part is a script's that may have no row, told by one look.
+    // Looks for the row of a script's part.
     #[inline]
-    pub fn may_be_new(&self, part: &PartKey) -> bool
-        ensures { (n : ℕ) → part.now ≡ PartKey.Raw n → result ≡ false → HasPart self.now part.now }
-    {
-        match part {
-            PartKey::Raw(number) => self.numbered.may_be_new(*number),
-            _ => false,
+    pub fn glance(&self, part: &PartKey, glance: &mut Glance) {
+        if let PartKey::Raw(number) = part {
+            glance.note(self.numbered.is_free(*number));
         }
     }
 
-    // Makes room for so many scripts' parts more, or for some of them. The table is as before.
-    pub fn make_room(&mut self, rows: usize) -> Result<(), AllocError>
+    // Counts a script's part, which is new or not.
+    pub fn count(&self, part: &PartKey, forecast: &mut Forecast) {
+        if let PartKey::Raw(number) = part {
+            forecast.count(self.numbered.get(*number).is_none());
+        }
+    }
+
+    // Makes room for the scripts' parts of a forecast, or for some of them. The table is as before.
+    pub fn make_room(&mut self, forecast: &Forecast) -> Result<(), AllocError>
         ensures { (q : PartKey) → part_row self.new q ≡ part_row self.old q }
     {
-        self.numbered.make_room(rows)
+        self.numbered.make_room(forecast)
     }
 
     // A row for a part. The table reads as before.
@@ -128,10 +132,23 @@ impl Parts {
         match self.move_end(span) {
             Some(before) => Ok(before.goes_on(span)),
             None => {
-                self.make(&span.part)?;
-                let _ = self.move_end(span);
+                self.begin(span)?;
                 Ok(History::UNSET.goes_on(span))
             }
+        }
+    }
+
+    // The first end of a part that has no row.
+    fn begin(&mut self, span: &Span) -> Result<(), AllocError>
+        requires { part_row self.old span.now.part ≡ None }
+        ensures { OnOk result ((part : PartKey) → history_at self.new part ≡ after_span part (history_at self.old part) span.now) }
+    {
+        let history = ended(History::UNSET, span);
+        match &span.part {
+            PartKey::Raw(number) => self.numbered.insert(*number, history, History::UNSET),
+            PartKey::File { .. } => begin_name(&mut self.named, span, history),
+            PartKey::Seq { .. } => begin_name(&mut self.named, span, history),
+            PartKey::Sink { .. } => begin_name(&mut self.named, span, history),
         }
     }
 }
@@ -145,6 +162,18 @@ fn make_named(rows: &mut HashMap<PartKey, History>, part: &PartKey) -> Result<()
         return Ok(());
     }
     make_row(rows, part.copy()?, History::UNSET)
+}
+
+fn begin_name(
+    rows: &mut HashMap<PartKey, History>,
+    span: &Span,
+    history: History,
+) -> Result<(), AllocError>
+    requires { get part_eq rows.old span.now.part ≡ None }
+    ensures { OnOk result ((q : PartKey) → get part_eq rows.new q ≡ (if part_eq span.now.part q then Some history else get part_eq rows.old q)) }
+{
+    rows.insert(span.part.copy()?, history)?;
+    Ok(())
 }
 
 fn move_number(rows: &mut Numbered<History>, number: u32, span: &Span) -> Option<History>

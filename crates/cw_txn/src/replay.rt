@@ -15,7 +15,7 @@ ghost use Rattle.cw_txn.specs.Replayed.{TakesBody};
 use crate::body::{BodyFault, read_count, read_entry};
 use crate::coordinator::Coordinator;
 use crate::entry::Entry;
-use crate::tables::{NewRows, Tables};
+use crate::tables::{Forecasts, Glances, Tables};
 use crate::walk::Walk;
 use cw_bytes::{FieldFault, Reader};
 use cw_types::Past;
@@ -60,6 +60,8 @@ pub struct Replay {
 struct Queue {
     walk: Walk,
     waiting: Vec<Waiting>,
+    // the bytes of the log, from which the rows to come are reckoned
+    size: u64,
 }
 
 // An entry that is read, and the gate of its frame.
@@ -83,18 +85,19 @@ impl Model for Replay {
 }
 
 impl Replay {
-    /// With no entry.
-    pub fn new(alloc: Global) -> Replay
+    /// With no entry, for a log of so many bytes. From these it reckons how much room to make at once; nothing but speed
+    /// and memory depends on them.
+    pub fn new(alloc: Global, size: u64) -> Replay
         ensures { result ≡ record { entries = []; gates = [] } }
     {
         Replay {
             alloc,
-            queue: Queue::new(alloc),
+            queue: Queue::new(alloc, size),
         }
     }
 
     /// Takes the entries of one body more, whose frame has its gate at this place. NotEntries comes exactly where the
-    /// body isn't the bytes of any entries, Memory for want of memory or where the entries would be more than 2^63.
+    /// body isn't the bytes of any entries, Memory for want of memory or where the entries would be more than 2^31.
     /// Behind an `Err` it has no entry.
     pub fn take_body(&mut self, body: &[u8], gate: u64) -> Result<(), BodyFault>
         ensures taken { OnOk result (TakesBody body.now gate self.old self.new) }
@@ -104,7 +107,7 @@ impl Replay {
         match self.queue.take_whole(self.alloc, body, gate) {
             Ok(_) => Ok(()),
             Err(fault) => {
-                self.queue = Queue::new(self.alloc);
+                self.queue = Queue::new(self.alloc, self.queue.size);
                 Err(fault)
             }
         }
@@ -129,7 +132,7 @@ impl Replay {
 }
 
 impl Queue {
-    fn new(alloc: Global) -> Queue
+    fn new(alloc: Global, size: u64) -> Queue
         ensures entries { result.walk.entries.items ≡ [] }
         ensures gates { result.walk.gates.items ≡ [] }
         ensures waiting { result.waiting.items ≡ [] }
@@ -138,6 +141,7 @@ impl Queue {
         Queue {
             walk: Walk::new(alloc),
             waiting: Vec::new(alloc),
+            size,
         }
     }
 
@@ -215,8 +219,10 @@ impl Queue {
         if self.waiting.len() < MOST_WAITING {
             return Ok(());
         }
-        let new = new_rows(&self.walk.tables, &self.waiting);
-        self.walk.make_room(new)?;
+        if lack_room(&self.walk.tables, &self.waiting) {
+            let forecasts = forecasts_of(&self.walk.tables, &self.waiting, self.size);
+            self.walk.make_room(&forecasts)?;
+        }
         take_waiting(&mut self.walk, alloc, self.waiting.as_slice())?;
         self.waiting.clear();
         Ok(())
@@ -227,7 +233,7 @@ impl Queue {
         requires { Walked self.walk }
         ensures { IfOk result (λ walk. Settled self walk) }
     {
-        let Queue { walk, waiting } = self;
+        let Queue { walk, waiting, .. } = self;
         let mut walk = walk;
         take_waiting(&mut walk, alloc, waiting.as_slice())?;
         Ok(walk)
@@ -236,14 +242,29 @@ impl Queue {
 
 ghost use Rattle.cw_txn.specs.declared.replay.Waiting.{Waiting};
 
-// How many rows may be new that these entries change. One row is looked for close behind the other, so that a processor
-// waits for the memory of many at once, and it lies near when they are changed.
-fn new_rows(tables: &Tables, waiting: &[Waiting]) -> NewRows {
-    let mut new = NewRows::NONE;
+// Whether these entries may need more room than there is. One row is looked for close behind the other, so that a
+// processor waits for the memory of many at once, and it lies near when they are changed.
+fn lack_room(tables: &Tables, waiting: &[Waiting]) -> bool {
+    let mut glances = Glances::NONE;
     for next in waiting {
-        tables.count_new(&next.entry, &mut new);
+        tables.glance(&next.entry, &mut glances);
     }
-    new
+    tables.lacks_room(&glances)
+}
+
+// How many rows these entries make, and others behind them may make in a log of this size.
+fn forecasts_of(tables: &Tables, waiting: &[Waiting], size: u64) -> Forecasts {
+    let mut forecasts = Forecasts::NONE;
+    for next in waiting {
+        tables.count(&next.entry, &mut forecasts);
+    }
+    if let [first, .., last] = waiting {
+        forecasts.go_on(
+            last.gate.saturating_sub(first.gate),
+            size.saturating_sub(last.gate),
+        );
+    }
+    forecasts
 }
 
 // Takes these entries, one after the other.

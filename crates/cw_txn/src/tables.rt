@@ -11,6 +11,7 @@ use crate::commits::Commits;
 use crate::entry::{Entry, EntryRef, SetOffset};
 use crate::epochs::Epochs;
 use crate::parts::{History, Parts};
+use cw_tables::{Forecast, Glance};
 use cw_types::{Name, PartKey, Span, Tag, Tid};
 use std::alloc::{AllocError, Global};
 
@@ -22,27 +23,38 @@ pub struct Tables {
     pub parts: Parts,
 }
 
-// How many producers and parts of scripts may be new. Nothing but speed depends on it.
+// One look at the rows of the scripts' producers and parts of some entries. Nothing but speed depends on it.
 #[derive(Clone, Copy, Drop)]
-pub struct NewRows {
-    pub producers: usize,
-    pub parts: usize,
+pub struct Glances {
+    producers: Glance,
+    parts: Glance,
 }
 
-impl NewRows {
-    pub const NONE: NewRows = NewRows {
-        producers: 0,
-        parts: 0,
+impl Glances {
+    pub const NONE: Glances = Glances {
+        producers: Glance::NONE,
+        parts: Glance::NONE,
+    };
+}
+
+// How many rows of scripts' producers and parts are new of some entries, and may be behind them. Nothing but speed and
+// memory depends on it.
+#[derive(Clone, Copy, Drop)]
+pub struct Forecasts {
+    producers: Forecast,
+    parts: Forecast,
+}
+
+impl Forecasts {
+    pub const NONE: Forecasts = Forecasts {
+        producers: Forecast::NONE,
+        parts: Forecast::NONE,
     };
 
-    #[inline]
-    fn add_producer(&mut self, is_new: bool) {
-        self.producers = self.producers.saturating_add(is_new as usize);
-    }
-
-    #[inline]
-    fn add_part(&mut self, is_new: bool) {
-        self.parts = self.parts.saturating_add(is_new as usize);
+    // Expects as many new rows in proportion behind entries that took so many bytes, where so many are left.
+    pub fn go_on(&mut self, taken: u64, left: u64) {
+        self.producers.go_on(taken, left);
+        self.parts.go_on(taken, left);
     }
 }
 
@@ -97,24 +109,43 @@ impl Tables {
         Ok(parts)
     }
 
-    // Counts the rows of scripts' producers and parts that an entry changes and that may be new.
-    pub fn count_new(&self, entry: &Entry, new: &mut NewRows) {
+    // Looks for the rows that an entry changes.
+    #[inline]
+    pub fn glance(&self, entry: &Entry, glances: &mut Glances) {
         match entry {
-            Entry::Bump(tid) => new.add_producer(self.epochs.may_be_new(tid)),
+            Entry::Bump(tid) => self.epochs.glance(tid, &mut glances.producers),
             Entry::Commit { tag, spans, .. } => {
-                new.add_producer(self.epochs.may_be_new(&tag.tid));
-                count_new_parts(&self.parts, spans.as_slice(), new);
+                self.epochs.glance(&tag.tid, &mut glances.producers);
+                glance_parts(&self.parts, spans.as_slice(), &mut glances.parts);
             }
             Entry::Set { .. } => {}
         }
     }
 
-    // Makes room for so many new rows, or for some of them.
-    pub fn make_room(&mut self, new: NewRows) -> Result<(), AllocError>
+    // Whether the rows of a glance may need more room than there is.
+    pub fn lacks_room(&self, glances: &Glances) -> bool {
+        self.epochs.numbered.lacks_room(&glances.producers)
+            || self.parts.numbered.lacks_room(&glances.parts)
+    }
+
+    // Counts the rows that an entry changes.
+    pub fn count(&self, entry: &Entry, forecasts: &mut Forecasts) {
+        match entry {
+            Entry::Bump(tid) => self.epochs.count(tid, &mut forecasts.producers),
+            Entry::Commit { tag, spans, .. } => {
+                self.epochs.count(&tag.tid, &mut forecasts.producers);
+                count_parts(&self.parts, spans.as_slice(), &mut forecasts.parts);
+            }
+            Entry::Set { .. } => {}
+        }
+    }
+
+    // Makes room for the rows of the forecasts, or for some of them.
+    pub fn make_room(&mut self, forecasts: &Forecasts) -> Result<(), AllocError>
         ensures { SameRows self.old self.new }
     {
-        self.epochs.make_room(new.producers)?;
-        self.parts.make_room(new.parts)
+        self.epochs.make_room(&forecasts.producers)?;
+        self.parts.make_room(&forecasts.parts)
     }
 
     // The rows that an entry changes, reading as before.
@@ -140,7 +171,7 @@ impl Tables {
     // One entry more, and the rows that it changes. It says whether every part chains at the entry, which is found on the
     // way, so that each part is looked up once. An `Err` may leave a part of it.
     pub fn put(&mut self, entry: &Entry) -> Result<bool, AllocError>
-        requires { (tid : Tid) → epoch_at self.old.epochs tid + 1 < 2 ^ 64 }
+        requires { (tid : Tid) → epoch_at self.old.epochs tid + 1 < 2 ^ 32 }
         ensures kept { OnOk result ((entries : List Entry) → Keeps self.old entries → Keeps self.new (entries ++ entry.now ∷ [])) }
         ensures chains { IfOk result (λ chains. (entries : List Entry) → Keeps self.old entries → IsChainTest entries entry.now chains) }
     {
@@ -165,7 +196,7 @@ impl Tables {
     // One entry more.
     pub fn add(&mut self, entry: &Entry)
         requires rows { HasRows self.old entry.now }
-        requires small { (tid : Tid) → epoch_at self.old.epochs tid + 1 < 2 ^ 64 }
+        requires small { (tid : Tid) → epoch_at self.old.epochs tid + 1 < 2 ^ 32 }
         ensures kept { (entries : List Entry) → Keeps self.old entries → Keeps self.new (entries ++ entry.now ∷ []) }
         ensures rows { KeepsRows self.old self.new }
     {
@@ -213,10 +244,15 @@ pub fn same_names(a: &Name, b: &Name) -> bool
     a == b
 }
 
-// Counts the parts of these spans that may be new.
-fn count_new_parts(parts: &Parts, spans: &[Span], new: &mut NewRows) {
+fn glance_parts(parts: &Parts, spans: &[Span], glance: &mut Glance) {
     for span in spans {
-        new.add_part(parts.may_be_new(&span.part));
+        parts.glance(&span.part, glance);
+    }
+}
+
+fn count_parts(parts: &Parts, spans: &[Span], forecast: &mut Forecast) {
+    for span in spans {
+        parts.count(&span.part, forecast);
     }
 }
 

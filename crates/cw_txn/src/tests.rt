@@ -197,7 +197,7 @@ fn list_makes_its_coordinator_or_names_its_first_fault(rt: HostRuntime) -> Resul
         ),
     ];
     for ([(epoch, number, from, to), (other, last, start, stop)], fault) in table {
-        let mut replay = Replay::new(rt.alloc());
+        let mut replay = Replay::new(rt.alloc(), 1000);
         assert!(rt; replay.take_body(&bump_body(), 16) == Ok(()));
         assert!(rt; replay.take_body(&commit_body(epoch, number, from, to), 40) == Ok(()));
         assert!(rt; replay.take_body(&commit_body(other, last, start, stop), 115) == Ok(()));
@@ -219,7 +219,7 @@ fn list_makes_its_coordinator_or_names_its_first_fault(rt: HostRuntime) -> Resul
 fn unreadable_body_is_answered_behind_any_other_and_leaves_no_entry(
     rt: HostRuntime,
 ) -> Result<(), Fail> {
-    let mut replay = Replay::new(rt.alloc());
+    let mut replay = Replay::new(rt.alloc(), 1000);
     assert!(rt; replay.take_body(&commit_body(1, 0, 0, 5), 16) == Ok(()));
     assert!(rt; replay.take_body(&bump_body(), 90) == Ok(()));
     assert!(rt; replay.take_body(b"\x00\x00\x00\x00", 115) == Err(BodyFault::NotEntries));
@@ -263,7 +263,7 @@ fn sets_are_of_distinct_parts_of_their_producers_connector(rt: HostRuntime) -> R
     ];
     for (lead, parts, allowed) in table {
         let body = sinks_body(rt.alloc(), lead, &parts)?;
-        let mut replay = Replay::new(rt.alloc());
+        let mut replay = Replay::new(rt.alloc(), 1000);
         assert!(rt; replay.take_body(body.as_slice(), 16) == Ok(()));
         match replay.into_coordinator() {
             Ok(txn) => {

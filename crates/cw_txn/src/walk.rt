@@ -11,7 +11,7 @@ use crate::allowed::is_allowed;
 use crate::coordinator::{Coordinator, MOST_ENTRIES, coordinator_of};
 use crate::entry::Entry;
 use crate::replay::ListFault;
-use crate::tables::{NewRows, Tables};
+use crate::tables::{Forecasts, Tables};
 use cw_types::Past;
 use std::alloc::{AllocError, Global};
 
@@ -43,12 +43,12 @@ impl Walk {
         }
     }
 
-    // Makes room for so many new rows, or for some of them.
-    pub fn make_room(&mut self, new: NewRows) -> Result<(), AllocError>
+    // Makes room for the rows of the forecasts, or for some of them.
+    pub fn make_room(&mut self, forecasts: &Forecasts) -> Result<(), AllocError>
         requires { Walked self.old }
         ensures { TookAll [] self.old self.new }
     {
-        self.tables.make_room(new)
+        self.tables.make_room(forecasts)
     }
 
     // One entry more. Behind one that isn't allowed nothing else is looked for: no later fault comes before it.
@@ -105,7 +105,7 @@ impl Walk {
     // The list is one entry longer, of which all is found.
     fn lengthen(&mut self, entry: &Entry, gate: u64)
         requires counted { self.old.length ≡ length self.old.entries.items }
-        requires few { self.old.length < 2 ^ 63 }
+        requires few { self.old.length < 2 ^ 31 }
         requires aligned { length self.old.gates.items ≡ length self.old.entries.items }
         requires found { Found self.old.not_allowed self.old.tables (self.old.entries.items ++ entry.now ∷ []) (self.old.gates.items ++ gate ∷ []) self.old.unchained }
         ensures { Took (entry.now ∷ []) gate self.old self.new }

@@ -1,4 +1,4 @@
-use Rattle.std.proofs.Common.{◌≡◌, ◌∙◌, ℕ, slice_index_or, ap, subst}
+use Rattle.std.proofs.Common.{◌≡◌, ◌∙◌, ℕ, slice_index_or, subst}
 use Rattle.std.specs.Prelude.{IfErr, ⊤}
 use Rattle.cw_txn.specs.Allowed.{AreAllowed, IsFirstNotAllowed, IsFirstUnchained}
 use Rattle.cw_txn.specs.Walk.{OnListFault}

@@ -1,0 +1,77 @@
+//! How many rows of a table may be made soon. Nothing but speed and the memory of a table depends on it.
+
+/// One look at the places of some numbers that come next.
+#[derive(Clone, Copy, Debug, Drop)]
+pub struct Glance {
+    // how many numbers there are, and how many of their places are free
+    numbers: usize,
+    free: usize,
+}
+
+impl Glance {
+    /// At no number.
+    pub const NONE: Glance = Glance {
+        numbers: 0,
+        free: 0,
+    };
+
+    /// One number more.
+    #[inline]
+    pub fn note(&mut self, is_free: bool) {
+        self.numbers = self.numbers.saturating_add(1);
+        self.free = self.free.saturating_add(is_free as usize);
+    }
+
+    // How many rows may be new; none where no place is free, as where all numbers are known.
+    pub(crate) fn new_rows(&self) -> usize {
+        if self.free == 0 {
+            return 0;
+        }
+        self.numbers
+    }
+}
+
+/// How many rows are new of some numbers that come next, and what that lets expect of the numbers behind them.
+#[derive(Clone, Copy, Debug, Drop)]
+pub struct Forecast {
+    // numbers that have no row yet, and numbers that have one
+    new: usize,
+    known: usize,
+    // new rows that may come behind them
+    behind: usize,
+}
+
+impl Forecast {
+    /// Of no number.
+    pub const NONE: Forecast = Forecast {
+        new: 0,
+        known: 0,
+        behind: 0,
+    };
+
+    /// Counts one number more.
+    pub fn count(&mut self, is_new: bool) {
+        self.new = self.new.saturating_add(is_new as usize);
+        self.known = self.known.saturating_add(!is_new as usize);
+    }
+
+    /// Expects as many new rows behind these numbers in proportion: these took so many bytes, and so many are left.
+    pub fn go_on(&mut self, taken: u64, left: u64) {
+        self.behind = (self.new as u64)
+            .saturating_mul(left)
+            .checked_div(taken)
+            .unwrap_or(0) as usize;
+    }
+
+    // How many rows the numbers need.
+    pub(crate) fn new_rows(&self) -> usize {
+        self.new
+    }
+
+    // How many rows more a table of so many rows may need. Where the numbers are drawn from a set, as large a share of
+    // those that come is known as the table has of the set, so that it needs no more than the rest of the set.
+    pub(crate) fn rows_behind(&self, rows: usize) -> usize {
+        let rest_of_set = (rows / self.known.saturating_add(1)).saturating_mul(self.new);
+        rest_of_set.min(self.behind).max(self.new)
+    }
+}
