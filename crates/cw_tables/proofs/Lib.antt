@@ -4,3 +4,4 @@ pub mod Places
 pub mod Placed
 pub mod Widened
 pub mod LentLemmas
+pub mod ShelfLemmas

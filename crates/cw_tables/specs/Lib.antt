@@ -3,3 +3,5 @@ pub mod Sparse
 pub mod Lent
 pub mod LentRow
 pub mod LentNumber
+pub mod Shelves
+pub mod Waiting

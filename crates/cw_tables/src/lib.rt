@@ -8,6 +8,7 @@ mod forecast;
 pub mod hashed;
 mod numbered;
 mod rows;
+mod shelves;
 mod sparse;
 #[cfg(test)]
 mod tests;
@@ -15,3 +16,4 @@ mod tests;
 pub use forecast::{Forecast, Glance};
 pub use numbered::Numbered;
 pub use rows::{has_row, make_row, set_row, value_at};
+pub use shelves::{SHELVES, Shelves};

@@ -147,6 +147,13 @@ impl<V: Copy + Drop> Numbered<V> {
         self.high.is_free(number)
     }
 
+    /// Whether a number's row is one of a large table, which a processor finds far off in memory. Nothing but speed depends
+    /// on it.
+    #[inline]
+    pub fn is_far(&self, number: u32) -> bool {
+        number >= self.limit && self.high.is_large()
+    }
+
     /// Whether the numbers of a glance may need more room than there is. Numbers of the list never do.
     #[inline]
     pub fn lacks_room(&self, glance: &Glance) -> bool {

@@ -10,6 +10,9 @@ use std::alloc::{AllocError, Global};
 // A table begins with 16 homes.
 const FIRST_SHIFT: u32 = 28;
 
+// A table of 2^18 homes takes 3 megabytes or more.
+const LARGE_SHIFT: u32 = 14;
+
 // Places behind the last home, for rows that find none at theirs: as many as there are homes, but at most these.
 const MARGIN: usize = 1024;
 
@@ -138,6 +141,12 @@ impl<V: Copy + Drop> Sparse<V> {
         is_empty_at(&self.slots, home(number, self.shift))
     }
 
+    /// Whether the memory near a processor can't hold the table.
+    #[inline]
+    pub fn is_large(&self) -> bool {
+        self.shift <= LARGE_SHIFT
+    }
+
     /// Whether the table is to grow before so many rows come.
     #[inline]
     pub fn lacks_room(&self, rows: usize) -> bool {
@@ -212,7 +221,7 @@ impl<V: Copy + Drop> Sparse<V> {
 // The high bits of the number's product with 2^32 over the golden ratio.
 #[inline]
 #[tactic(auto, unfolding(crate::specs::Sparse::home_of))]
-fn home(number: u32, shift: u32) -> usize
+pub fn home(number: u32, shift: u32) -> usize
     requires { shift < 32 }
     ensures home { result ≡ home_of number shift }
     ensures within { result < 2 ^ 32 }

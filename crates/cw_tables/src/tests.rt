@@ -1,6 +1,8 @@
 //! Each call once with ample memory.
 
-use crate::{Forecast, Glance, Numbered, has_row, hashed, make_row, set_row, value_at};
+use crate::{
+    Forecast, Glance, Numbered, SHELVES, Shelves, has_row, hashed, make_row, set_row, value_at,
+};
 use std::collections::{BTreeMap, HashMap};
 use std::test::Fail;
 
@@ -109,6 +111,28 @@ fn great_numbers_keep_their_rows_while_the_table_grows(rt: HostRuntime) -> Resul
         assert_eq!(rt; table.get(number), Some(number as u64 + 1));
         assert_eq!(rt; table.get((1 << 21) + place), None);
     }
+    Ok(())
+}
+
+#[test]
+fn numbers_on_shelves_wait_until_they_are_cleared(rt: HostRuntime) -> Result<(), Fail> {
+    let mut shelves = Shelves::new(rt.alloc());
+    assert!(rt; shelves.is_empty());
+    for place in 0..1000 {
+        shelves.put(great(place))?;
+        shelves.put(great(place / 2))?;
+    }
+    assert_eq!(rt; shelves.len(), 2000);
+    assert_eq!(rt; shelves.lists().len(), SHELVES);
+    let mut waiting: usize = 0;
+    for list in shelves.lists() {
+        waiting = list.len().saturating_add(waiting);
+    }
+    assert_eq!(rt; waiting, 2000);
+    shelves.clear();
+    assert!(rt; shelves.is_empty());
+    shelves.put(7)?;
+    assert_eq!(rt; shelves.len(), 1);
     Ok(())
 }
 

@@ -15,3 +15,4 @@ pub mod WalkLemmas
 pub mod QueueLemmas
 pub mod Noted
 pub mod Mapped
+pub mod LateLemmas

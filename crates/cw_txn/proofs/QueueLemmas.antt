@@ -11,7 +11,9 @@ use Rattle.cw_txn.specs.declared.walk.Walk.{Walk}
 use Rattle.cw_txn.specs.declared.replay.Queue.{Queue}
 use Rattle.cw_txn.specs.declared.replay.Waiting.{Waiting}
 use Rattle.cw_txn.specs.declared.tables.Tables.{Tables}
-use Rattle.cw_txn.specs.Tables.{Keeps, SameRows}
+use Rattle.cw_tables.specs.declared.shelves.Shelves.{Shelves}
+use Rattle.cw_txn.specs.Tables.{SameRows}
+use Rattle.cw_txn.proofs.LateLemmas.{lags_same}
 use Rattle.cw_txn.specs.Walk.{Walked, Took, Found}
 use Rattle.cw_txn.specs.Queue.{entries_of, gates_of, queue_entries, queue_gates, Queued, TookAll, Settled}
 use Rattle.cw_txn.proofs.Bodies.{body_takes}
@@ -46,6 +48,22 @@ queued_push old mid new w same walk push = record {
   walked = subst Walked (sym walk) same.walked;
 }
 
+-- one is taken where none waits
+pub queued_taken_one : (queue : Queue) (walk : Walk) (entry : Entry) (gate : ℕ) → queue.waiting.items ≡ [] → Took (entry ∷ []) gate queue.walk walk → Queued (entry ∷ []) gate queue (record queue { walk = walk })
+queued_taken_one queue walk entry gate none took = record {
+  entries = ap (λ l. walk.entries.items ++ entries_of l) none ∙ append-nil walk.entries.items ∙ took.entries ∙ ap (λ (l : List Entry). l ++ entry ∷ []) (sym (ap (λ l. queue.walk.entries.items ++ entries_of l) none ∙ append-nil queue.walk.entries.items));
+  gates = ap (λ l. walk.gates.items ++ gates_of l) none ∙ append-nil walk.gates.items ∙ took.gates ∙ ap (λ (l : List ℕ). l ++ gate ∷ []) (sym (ap (λ l. queue.walk.gates.items ++ gates_of l) none ∙ append-nil queue.walk.gates.items));
+  walked = took.walked;
+}
+
+-- one is taken once all that waited are
+pub queued_behind : (old mid new : Queue) (entry : Entry) (gate : ℕ) → Queued [] 0 old mid → Queued (entry ∷ []) gate mid new → Queued (entry ∷ []) gate old new
+queued_behind old mid new entry gate same one = record {
+  entries = one.entries ∙ ap (λ (l : List Entry). l ++ entry ∷ []) (same.entries ∙ append-nil (queue_entries old));
+  gates = one.gates ∙ ap (λ (l : List ℕ). l ++ gate ∷ []) (same.gates ∙ append-nil (queue_gates old));
+  walked = one.walked;
+}
+
 -- one entry more than a group
 pub queued_more : (group : List Entry) (entry : Entry) (gate : ℕ) (old mid new : Queue) → Queued group gate old mid → Queued (entry ∷ []) gate mid new → Queued (group ++ entry ∷ []) gate old new
 queued_more group entry gate old mid new queued one = record {
@@ -72,24 +90,17 @@ pub took_none : (walk : Walk) → Walked walk → TookAll [] walk walk
 took_none walk walked = record { entries = sym (append-nil walk.entries.items); gates = sym (append-nil walk.gates.items); walked = walked }
 
 -- tables that read as before are those of the same entries
-same_kept : (old new : Tables) (entries : List Entry) → SameRows old new → Keeps old entries → Keeps new entries
-same_kept old new entries same kept = record {
-  epochs = λ tid. same.epochs tid ∙ kept.epochs tid;
-  committed = λ tag. same.committed tag ∙ kept.committed tag;
-  parts = λ part. same.parts part ∙ kept.parts part;
-}
-
-same_found : (old new : Tables) (entries : List Entry) (gates : List ℕ) (not_allowed unchained : Option ℕ) → SameRows old new → Found not_allowed old entries gates unchained
-    → Found not_allowed new entries gates unchained
-same_found old new entries gates None unchained same found = record { allowed = found.allowed; kept = same_kept old new entries same found.kept; chained = found.chained }
-same_found old new entries gates (Some gate) unchained same found = found
+same_found : (old new : Tables) (late : Shelves) (entries : List Entry) (gates : List ℕ) (not_allowed unchained : Option ℕ) → SameRows old new → Found not_allowed old late entries gates unchained
+    → Found not_allowed new late entries gates unchained
+same_found old new late entries gates None unchained same found = record { allowed = found.allowed; lags = lags_same old late entries new same found.lags; chained = found.chained }
+same_found old new late entries gates (Some gate) unchained same found = found
 
 -- a walk whose tables read as before has taken the same
 pub took_same : (walk : Walk) (tables : Tables) → Walked walk → SameRows walk.tables tables → TookAll [] walk (record walk { tables = tables })
 took_same walk tables walked same = record {
   entries = sym (append-nil walk.entries.items);
   gates = sym (append-nil walk.gates.items);
-  walked = record { counted = walked.counted; few = walked.few; aligned = walked.aligned; found = same_found walk.tables tables walk.entries.items walk.gates.items walk.not_allowed walk.unchained same walked.found };
+  walked = record { counted = walked.counted; few = walked.few; aligned = walked.aligned; found = same_found walk.tables tables walk.late walk.entries.items walk.gates.items walk.not_allowed walk.unchained same walked.found };
 }
 
 -- the next is taken

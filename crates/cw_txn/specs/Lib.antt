@@ -12,3 +12,4 @@ pub mod BodyReading
 pub mod Replayed
 pub mod Walk
 pub mod Queue
+pub mod Late

@@ -15,7 +15,9 @@ use Rattle.cw_types.specs.Same.{same_part, part_eq}
 use Rattle.cw_txn.specs.History.{SpansChain}
 use Rattle.cw_txn.specs.Legal.{Chains, ChainsBehind}
 use Rattle.cw_txn.specs.Allowed.{AreAllowed, IsFirstNotAllowed, IsFirstUnchained}
-use Rattle.cw_txn.specs.Tables.{Keeps}
+use Rattle.cw_tables.specs.declared.shelves.Shelves.{Shelves}
+use Rattle.cw_tables.specs.Waiting.{waits}
+use Rattle.cw_txn.specs.Late.{Lags}
 use Rattle.cw_txn.specs.PartRows.{history_at}
 
 -- what each fault of a list says, by the gate of an entry
@@ -43,29 +45,36 @@ abbrev pub IsSpanTest : Parts → List Span → Bool → Type 0
 IsSpanTest parts spans true = (part : PartKey) → SpansChain part (history_at parts part) spans
 IsSpanTest parts spans false = (part : PartKey) × (¬ SpansChain part (history_at parts part) spans)
 
--- these entries are allowed, the tables are theirs, and this is the gate of the first that doesn't chain
-pub record AreWalked (tables : Tables) (entries : List Entry) (gates : List ℕ) (unchained : Option ℕ) : Type 0 where
+-- these entries are allowed, the tables are theirs but for what waits, and this is the gate of the first that doesn't chain
+pub record AreWalked (tables : Tables) (late : Shelves) (entries : List Entry) (gates : List ℕ) (unchained : Option ℕ) : Type 0 where
   pub allowed : AreAllowed entries
-  pub kept : Keeps tables entries
+  pub lags : Lags tables late entries
   pub chained : ChainsUpTo entries gates unchained
 
 -- the same, or this is the gate of the first that isn't allowed; then the tables say nothing any more
-abbrev pub Found : Option ℕ → Tables → List Entry → List ℕ → Option ℕ → Type 0
-Found None tables entries gates unchained = AreWalked tables entries gates unchained
-Found (Some gate) tables entries gates unchained = HasGate (IsFirstNotAllowed entries) gates gate
+abbrev pub Found : Option ℕ → Tables → Shelves → List Entry → List ℕ → Option ℕ → Type 0
+Found None tables late entries gates unchained = AreWalked tables late entries gates unchained
+Found (Some gate) tables late entries gates unchained = HasGate (IsFirstNotAllowed entries) gates gate
 
 -- a walk knows how many entries it has taken, and what it found in them
 pub record Walked (walk : Walk) : Type 0 where
   pub counted : walk.length ≡ length walk.entries.items
   pub few : walk.length ≤ 2 ^ 31
   pub aligned : length walk.gates.items ≡ length walk.entries.items
-  pub found : Found walk.not_allowed walk.tables walk.entries.items walk.gates.items walk.unchained
+  pub found : Found walk.not_allowed walk.tables walk.late walk.entries.items walk.gates.items walk.unchained
 
 -- a walk took these entries more, of a frame with this gate
 pub record Took (group : List Entry) (gate : ℕ) (old new : Walk) : Type 0 where
   pub entries : new.entries.items ≡ old.entries.items ++ group
   pub gates : new.gates.items ≡ old.gates.items ++ replicate (length group) gate
   pub walked : Walked new
+
+-- a walk has the same entries, and no bump waits
+pub record IsSettled (old new : Walk) : Type 0 where
+  pub entries : new.entries.items ≡ old.entries.items
+  pub gates : new.gates.items ≡ old.gates.items
+  pub walked : Walked new
+  pub none : (q : ℕ) → waits new.late q ≡ 0
 
 -- the table has a row for the parts of these offsets, and no other
 abbrev pub AreNoted : {S : Type 0} → HashMap PartKey Bool S → List SetOffset → Type 0

@@ -4,8 +4,9 @@ ghost use Rattle.std.specs.HashMap.{get};
 ghost use Rattle.cw_types.specs.declared.ids.Tid.{Tid};
 ghost use Rattle.cw_types.specs.Same.{same_tid};
 
+use crate::late::raise_shelves;
 use cw_tables::hashed::{has_row, make_row, value_at};
-use cw_tables::{Forecast, Glance, Numbered};
+use cw_tables::{Forecast, Glance, Numbered, SHELVES, Shelves};
 use cw_types::Tid;
 use std::alloc::{AllocError, Global};
 use std::collections::HashMap;
@@ -19,6 +20,7 @@ pub struct Epochs {
 
 impl Epochs {
     ghost use Rattle.cw_txn.specs.EpochRows.{epoch_row, epoch_at};
+    ghost use Rattle.cw_txn.specs.Late.{late_of};
 
     pub fn new(alloc: Global) -> Epochs
         ensures { (q : Tid) → epoch_row result q ≡ None }
@@ -60,6 +62,16 @@ impl Epochs {
         ensures { (q : Tid) → epoch_row self.new q ≡ epoch_row self.old q }
     {
         self.numbered.make_room(forecast)
+    }
+
+    // Raises the epochs of the scripts' producers that wait, each as often as it does. So many times as many may come
+    // behind them.
+    pub fn raise_late(&mut self, late: &Shelves, behind: u64) -> Result<(), AllocError>
+        requires { (tid : Tid) → epoch_at self.old tid + late_of late.now tid < 2 ^ 32 }
+        ensures { OnOk result ((tid : Tid) → epoch_at self.new tid ≡ epoch_at self.old tid + late_of late.now tid) }
+    {
+        let shelves_behind = behind.saturating_add(1).saturating_mul(SHELVES as u64);
+        raise_shelves(&mut self.numbered, late.lists(), shelves_behind)
     }
 
     // A row for a producer. The table reads as before.
@@ -135,7 +147,7 @@ fn begin_name(rows: &mut HashMap<Tid, u64>, tid: &Tid) -> Result<(), AllocError>
     Ok(())
 }
 
-fn raise_number(rows: &mut Numbered<u32>, number: u32) -> bool
+pub fn raise_number(rows: &mut Numbered<u32>, number: u32) -> bool
     requires { unwrap_or (numbered_row rows.old number) 0 + 1 < 2 ^ 32 }
     ensures there { result ≡ is_some (numbered_row rows.old number) }
     ensures raised { (q : ℕ) → numbered_row rows.new q ≡ (if result && nat_eq number q then Some (unwrap_or (numbered_row rows.old number) 0 + 1) else numbered_row rows.old q) }

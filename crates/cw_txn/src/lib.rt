@@ -12,6 +12,7 @@ mod commits;
 mod coordinator;
 mod entry;
 mod epochs;
+mod late;
 mod parts;
 mod replay;
 mod tables;

@@ -1,5 +1,5 @@
 //! The entries of a log, taken one body after the other.
-ghost use Rattle.std.specs.Prelude.{◌≡◌, ◌≢◌, ◌++◌, ◌∷◌, [], ℕ, List, map, slice_index_or, Some, None, Err, ⊤, IfOk, IfErr, OnOk, OnErr, MatchResult};
+ghost use Rattle.std.specs.Prelude.{◌≡◌, ◌≢◌, ◌++◌, ◌∷◌, [], ℕ, List, map, slice_index_or, Some, None, Err, ⊤, IfSome, IfOk, IfErr, OnOk, OnErr, MatchResult};
 ghost use Rattle.cw_bytes.specs.Reading.{Gives, many_at};
 ghost use Rattle.cw_types.specs.declared.ids.PartKey.{PartKey};
 ghost use Rattle.cw_txn.specs.declared.entry.Entry.{Entry};
@@ -18,7 +18,7 @@ use crate::entry::Entry;
 use crate::tables::{Forecasts, Glances, Tables};
 use crate::walk::Walk;
 use cw_bytes::{FieldFault, Reader};
-use cw_types::Past;
+use cw_types::{Past, Tid};
 use std::alloc::{AllocError, Global};
 use std::marker::Model;
 
@@ -60,8 +60,6 @@ pub struct Replay {
 struct Queue {
     walk: Walk,
     waiting: Vec<Waiting>,
-    // the bytes of the log, from which the rows to come are reckoned
-    size: u64,
 }
 
 // An entry that is read, and the gate of its frame.
@@ -107,7 +105,7 @@ impl Replay {
         match self.queue.take_whole(self.alloc, body, gate) {
             Ok(_) => Ok(()),
             Err(fault) => {
-                self.queue = Queue::new(self.alloc, self.queue.size);
+                self.queue = Queue::new(self.alloc, self.queue.walk.size);
                 Err(fault)
             }
         }
@@ -139,9 +137,8 @@ impl Queue {
         ensures walked { Walked result.walk }
     {
         Queue {
-            walk: Walk::new(alloc),
+            walk: Walk::new(alloc, size),
             waiting: Vec::new(alloc),
-            size,
         }
     }
 
@@ -201,12 +198,17 @@ impl Queue {
         Ok(group)
     }
 
-    // One entry more, which waits behind the others.
+    // One entry more, which waits behind the others, or whose row does.
     fn put(&mut self, alloc: Global, entry: Entry, gate: u64) -> Result<(), AllocError>
         requires { Walked self.old.walk }
         ensures { OnOk result (Queued (entry ∷ []) gate self.old self.new) }
     {
         self.make_room(alloc)?;
+        if self.waiting.is_empty() {
+            if let Some(number) = late_bump(&self.walk, &entry) {
+                return self.walk.put_off(number, gate);
+            }
+        }
         self.waiting.push(Waiting { entry, gate })?;
         Ok(())
     }
@@ -220,7 +222,7 @@ impl Queue {
             return Ok(());
         }
         if lack_room(&self.walk.tables, &self.waiting) {
-            let forecasts = forecasts_of(&self.walk.tables, &self.waiting, self.size);
+            let forecasts = forecasts_of(&self.walk.tables, &self.waiting, self.walk.size);
             self.walk.make_room(&forecasts)?;
         }
         take_waiting(&mut self.walk, alloc, self.waiting.as_slice())?;
@@ -233,7 +235,7 @@ impl Queue {
         requires { Walked self.walk }
         ensures { IfOk result (λ walk. Settled self walk) }
     {
-        let Queue { walk, waiting, .. } = self;
+        let Queue { walk, waiting } = self;
         let mut walk = walk;
         take_waiting(&mut walk, alloc, waiting.as_slice())?;
         Ok(walk)
@@ -241,6 +243,16 @@ impl Queue {
 }
 
 ghost use Rattle.cw_txn.specs.declared.replay.Waiting.{Waiting};
+
+// The number of a script's producer that an entry bumps, where its row is far off or other bumps wait already.
+fn late_bump(walk: &Walk, entry: &Entry) -> Option<u32>
+    ensures { IfSome result (λ number. entry.now ≡ Entry.Bump (Tid.Raw number)) }
+{
+    match entry {
+        Entry::Bump(Tid::Raw(number)) if walk.is_late(*number) => Some(*number),
+        _ => None,
+    }
+}
 
 // Whether these entries may need more room than there is. One row is looked for close behind the other, so that a
 // processor waits for the memory of many at once, and it lies near when they are changed.

@@ -234,6 +234,45 @@ fn unreadable_body_is_answered_behind_any_other_and_leaves_no_entry(
     Ok(())
 }
 
+// Different numbers of producers, spread over all of 2^32.
+fn spread(place: u32) -> u32 {
+    let mixed = (place ^ place >> 16).wrapping_mul(0x7FEB_352D);
+    (mixed ^ mixed >> 15).wrapping_mul(0x846C_A68B)
+}
+
+// The body of bumps of the producers at these places.
+fn bumps_body(alloc: Global, first: u32, count: u32) -> Result<Vec<u8>, AllocError> {
+    let mut body = Vec::new(alloc);
+    body.extend_from_slice(&count.to_be_bytes())?;
+    for place in 0..count {
+        body.extend_from_slice(&[1, 3])?;
+        body.extend_from_slice(&spread(first.wrapping_add(place)).to_be_bytes())?;
+    }
+    Ok(body)
+}
+
+#[test]
+fn bumps_of_very_many_producers_wait_and_are_all_counted(rt: HostRuntime) -> Result<(), Fail> {
+    let mut replay = Replay::new(rt.alloc(), 10_000_000);
+    for group in 0..400 {
+        let body = bumps_body(rt.alloc(), group % 200 * 1000, 1000)?;
+        assert!(rt; replay.take_body(body.as_slice(), 16 + group as u64) == Ok(()));
+    }
+    let body = bumps_body(rt.alloc(), 7, 1)?;
+    assert!(rt; replay.take_body(body.as_slice(), 1000) == Ok(()));
+    match replay.into_coordinator() {
+        Ok(txn) => {
+            assert_eq!(rt; txn.length(), 400_001);
+            assert_eq!(rt; txn.epoch_of(&Tid::Raw(spread(0))), 2);
+            assert_eq!(rt; txn.epoch_of(&Tid::Raw(spread(7))), 3);
+            assert_eq!(rt; txn.epoch_of(&Tid::Raw(spread(199_999))), 2);
+            assert_eq!(rt; txn.epoch_of(&Tid::Raw(spread(200_000))), 0);
+        }
+        Err(_) => assert!(rt; false),
+    }
+    Ok(())
+}
+
 // The body of a set of two sink parts to offset 3 under epoch 0, by the leader or else by task 0 of connector a.
 fn sinks_body(alloc: Global, lead: bool, parts: &[(u8, u8); 2]) -> Result<Vec<u8>, AllocError> {
     let mut body = Vec::new(alloc);

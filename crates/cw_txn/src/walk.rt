@@ -5,41 +5,56 @@ ghost use Rattle.cw_txn.specs.declared.entry.Entry.{Entry};
 ghost use Rattle.cw_txn.specs.Legal.{Chains};
 ghost use Rattle.cw_txn.specs.Allowed.{AreAllowed, IsFirstNotAllowed, IsFirstUnchained};
 ghost use Rattle.cw_txn.specs.Queue.{TookAll};
-ghost use Rattle.cw_txn.specs.Walk.{OnListFault, ChainsUpTo, IsChainTest, Found, Walked, Took};
+ghost use Rattle.cw_txn.specs.Walk.{OnListFault, ChainsUpTo, IsChainTest, Found, IsSettled, Walked, Took};
 
 use crate::allowed::is_allowed;
 use crate::coordinator::{Coordinator, MOST_ENTRIES, coordinator_of};
 use crate::entry::Entry;
 use crate::replay::ListFault;
 use crate::tables::{Forecasts, Tables};
-use cw_types::Past;
+use cw_tables::Shelves;
+use cw_types::{Past, Tid};
 use std::alloc::{AllocError, Global};
 
+// So many bumps wait at most.
+const MOST_LATE: usize = 1 << 20;
+
 // The entries so far and the gate of each, which are ghost data, and what was found in them: their number, the gate of
-// the first that isn't allowed and of the first that doesn't chain, and the tables as long as all are allowed.
+// the first that isn't allowed and of the first that doesn't chain, and the tables as long as all are allowed. These lag
+// by bumps of scripts' producers that wait, so that rows which lie near one another are raised together.
 #[derive(Drop)]
 pub struct Walk {
     pub tables: Tables,
+    pub late: Shelves,
     pub entries: Past<Entry>,
     pub gates: Past<u64>,
     pub length: u64,
     pub not_allowed: Option<u64>,
     pub unchained: Option<u64>,
+    // the log's bytes, and the gate up to which no bump waits; nothing but speed and memory depends on them
+    pub size: u64,
+    pub settled: u64,
 }
 
 impl Walk {
-    pub fn new(alloc: Global) -> Walk
+    ghost use Rattle.cw_tables.specs.Waiting.{waits};
+
+    // With no entry, for a log of so many bytes.
+    pub fn new(alloc: Global, size: u64) -> Walk
         ensures entries { result.entries.items ≡ [] }
         ensures gates { result.gates.items ≡ [] }
         ensures walked { Walked result }
     {
         Walk {
             tables: Tables::new(alloc),
+            late: Shelves::new(alloc),
             entries: Past::new(),
             gates: Past::new(),
             length: 0,
             not_allowed: None,
             unchained: None,
+            size,
+            settled: 0,
         }
     }
 
@@ -51,9 +66,74 @@ impl Walk {
         self.tables.make_room(forecasts)
     }
 
-    // One entry more. Behind one that isn't allowed nothing else is looked for: no later fault comes before it.
+    // Whether a bump of this producer should wait. Nothing but speed depends on it.
+    pub fn is_late(&self, number: u32) -> bool {
+        !self.late.is_empty() || self.tables.epochs.numbered.is_far(number)
+    }
+
+    // A bump more of a script's producer, which waits.
+    pub fn put_off(&mut self, number: u32, gate: u64) -> Result<(), AllocError>
+        requires { Walked self.old }
+        ensures { OnOk result (Took (Entry.Bump (Tid.Raw number) ∷ []) gate self.old self.new) }
+    {
+        if self.late.len() >= MOST_LATE {
+            self.settle(gate)?;
+        }
+        self.put_late(number, gate)
+    }
+
+    fn put_late(&mut self, number: u32, gate: u64) -> Result<(), AllocError>
+        requires { Walked self.old }
+        ensures { OnOk result (Took (Entry.Bump (Tid.Raw number) ∷ []) gate self.old self.new) }
+    {
+        if self.length >= MOST_ENTRIES {
+            return Err(AllocError);
+        }
+        self.late.put(number)?;
+        self.lengthen(&Entry::Bump(Tid::Raw(number)), gate);
+        Ok(())
+    }
+
+    // Raises the epochs of the producers whose bumps wait, up to this gate.
+    #[inline]
+    fn settle(&mut self, gate: u64) -> Result<(), AllocError>
+        requires { Walked self.old }
+        ensures { OnOk result (IsSettled self.old self.new) }
+    {
+        if self.late.is_empty() {
+            return Ok(());
+        }
+        self.raise_late(gate)
+    }
+
+    // The same, where some wait. Where an entry isn't allowed the tables say nothing any more.
+    fn raise_late(&mut self, gate: u64) -> Result<(), AllocError>
+        requires { Walked self.old }
+        ensures { OnOk result (IsSettled self.old self.new) }
+    {
+        if self.not_allowed.is_none() {
+            let behind = times_behind(self.settled, gate, self.size);
+            self.tables.epochs.raise_late(&self.late, behind)?;
+        }
+        self.late.clear();
+        self.settled = gate;
+        Ok(())
+    }
+
+    // One entry more.
     pub fn take(&mut self, alloc: Global, entry: &Entry, gate: u64) -> Result<(), AllocError>
         requires { Walked self.old }
+        ensures { OnOk result (Took (entry.now ∷ []) gate self.old self.new) }
+    {
+        self.settle(gate)?;
+        self.take_next(alloc, entry, gate)
+    }
+
+    // One entry more, where no bump waits. Behind one that isn't allowed nothing else is looked for: no later fault comes
+    // before it.
+    fn take_next(&mut self, alloc: Global, entry: &Entry, gate: u64) -> Result<(), AllocError>
+        requires walked { Walked self.old }
+        requires none { (q : ℕ) → waits self.old.late q ≡ 0 }
         ensures { OnOk result (Took (entry.now ∷ []) gate self.old self.new) }
     {
         if self.length >= MOST_ENTRIES {
@@ -85,6 +165,23 @@ impl Walk {
             (λ gate. (place : ℕ) × AreAllowed self.entries.items × IsFirstUnchained self.entries.items place × (slice_index_or self.gates.items place gate ≡ gate))
             ⊤) }
     {
+        let mut walk = self;
+        let end = walk.size;
+        walk.settle(end)?;
+        walk.into_settled(alloc)
+    }
+
+    fn into_settled(self, alloc: Global) -> Result<Coordinator, ListFault>
+        requires walked { Walked self }
+        requires none { (q : ℕ) → waits self.late q ≡ 0 }
+        ensures entries { IfOk result (λ c. c ≡ record { entries = self.entries.items; reserved = [] }) }
+        ensures allowed { OnOk result (AreAllowed self.entries.items) }
+        ensures chains { OnOk result ((part : PartKey) → Chains part self.entries.items) }
+        ensures fault { IfErr result (OnListFault
+            (λ gate. (place : ℕ) × IsFirstNotAllowed self.entries.items place × (slice_index_or self.gates.items place gate ≡ gate))
+            (λ gate. (place : ℕ) × AreAllowed self.entries.items × IsFirstUnchained self.entries.items place × (slice_index_or self.gates.items place gate ≡ gate))
+            ⊤) }
+    {
         let Walk {
             tables,
             entries,
@@ -107,13 +204,20 @@ impl Walk {
         requires counted { self.old.length ≡ length self.old.entries.items }
         requires few { self.old.length < 2 ^ 31 }
         requires aligned { length self.old.gates.items ≡ length self.old.entries.items }
-        requires found { Found self.old.not_allowed self.old.tables (self.old.entries.items ++ entry.now ∷ []) (self.old.gates.items ++ gate ∷ []) self.old.unchained }
+        requires found { Found self.old.not_allowed self.old.tables self.old.late (self.old.entries.items ++ entry.now ∷ []) (self.old.gates.items ++ gate ∷ []) self.old.unchained }
         ensures { Took (entry.now ∷ []) gate self.old self.new }
     {
         self.entries = self.entries.and(entry);
         self.gates = self.gates.and(&gate);
         self.length += 1;
     }
+}
+
+// How often as many bytes come behind this gate as between it and an earlier one.
+fn times_behind(earlier: u64, gate: u64, size: u64) -> u64 {
+    size.saturating_sub(gate)
+        .checked_div(gate.saturating_sub(earlier))
+        .unwrap_or(0)
 }
 
 // The gate of the first entry at which a part doesn't chain, with one entry more, at which every part does or one doesn't.

@@ -1,0 +1,19 @@
+use Rattle.std.proofs.Common.{◌≡◌, ◌∙◌, ℕ, nat_eq, if◌then◌else◌, slice_set, sym, ap, arith, rules}
+use Rattle.cw_tables.specs.Shelves.{times, times_on}
+use Rattle.cw_tables.proofs.ShelfLemmas.{times_more, times_on_set}
+use Rattle.cw_tables.proofs.shelves.put_on.Goals as goal
+
+pub returns-in_err-push-clause-same : goal.returns-in_err-push-clause-same
+returns-in_err-push-clause-same c =
+    let same : (q : ℕ) → times_on q (slice_set c.args.shelves.now.items c.args.shelf c.push.new.self) ≡ times_on q c.args.shelves.now.items =
+    λ q. (omega (
+      arith,
+      times_on_set q c.args.shelves.now.items c.args.shelf 0 c.index_mut.result.now c.push.new.self c.requires (sym c.index_mut.ensures.value)
+          (let kept : times q c.push.new.self.items ≡ times q c.index_mut.result.now.items = ap (times q) c.in_err-push.ensures.items in omega (arith, kept)),
+    )) in
+    search rules
+
+pub returns-clause-put : goal.returns-clause-put
+returns-clause-put c q =
+    times_on_set q c.args.shelves.now.items c.args.shelf (if nat_eq c.args.number q then 1 else 0) c.index_mut.result.now c.push.new.self c.requires (sym c.index_mut.ensures.value)
+    (ap (times q) c.in_ok-push.ensures.items ∙ times_more q c.index_mut.result.now.items c.args.number)

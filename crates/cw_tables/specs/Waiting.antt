@@ -1,0 +1,8 @@
+-- What waits on the shelves.
+use Rattle.std.specs.Prelude.{ℕ}
+use Rattle.cw_tables.specs.declared.shelves.Shelves.{Shelves}
+use Rattle.cw_tables.specs.Shelves.{times_on}
+
+-- how often a number waits
+abbrev pub waits : Shelves → ℕ → ℕ
+waits waiting number = times_on number waiting.shelves.items

@@ -1,0 +1,155 @@
+-- Producers whose bumps wait, raised one after the other.
+use Rattle.std.proofs.Common.{◌≡◌, ◌<◌, ◌≤◌, ◌+◌, ◌^◌, ◌++◌, ℕ, suc, zero, Bool, true, false, ◌||◌, List, [], ◌∷◌, Option, Some, None, is_some, length, take, slice_index_or, nat_eq, cond, refl, sym, ap, ◌∙◌, arith}
+use Rattle.std.proofs.lemmas.Bool.Decides.{nat_tests}
+use Rattle.std.specs.Global.{Vec}
+use Rattle.cw_tables.specs.Shelves.{times, times_on}
+use Rattle.cw_tables.specs.declared.shelves.Shelves.{Shelves}
+use Rattle.cw_tables.specs.Waiting.{waits}
+use Rattle.cw_types.specs.declared.ids.Tid.{Tid}
+use Rattle.cw_types.specs.declared.ids.Tid.TheVariants.{Lead, Task, Raw}
+use Rattle.cw_types.specs.Same.{same_tid}
+use Rattle.cw_txn.specs.declared.entry.Entry.{Entry}
+use Rattle.cw_txn.specs.declared.entry.Entry.TheVariants.{Bump}
+use Rattle.cw_txn.specs.declared.epochs.Epochs.{Epochs}
+use Rattle.cw_txn.specs.declared.tables.Tables.{Tables}
+use Rattle.cw_txn.specs.declared.walk.Walk.{Walk}
+use Rattle.cw_txn.specs.EpochRows.{epoch_at}
+use Rattle.cw_txn.specs.Legal.{is_committed}
+use Rattle.cw_txn.specs.Tables.{Keeps, SameRows}
+use Rattle.cw_txn.specs.Late.{late_of, Lags}
+use Rattle.cw_txn.specs.Walk.{Found, IsSettled, Took, Walked}
+use Rattle.cw_txn.proofs.Walks.{epoch_of-push, is_committed-push, history-push, epoch_of_le}
+
+-- the next number of a list
+suc_times : (q : ℕ) (numbers : List ℕ) (i d : ℕ) → i < length numbers → times q (take (suc i) numbers) ≡ times q (take i numbers) + cond (nat_eq (slice_index_or numbers i d) q) 1 0
+suc_times q [] i d low = absurd (omega (arith, low))
+suc_times q (number ∷ numbers) zero d low = omega arith
+suc_times q (number ∷ numbers) (suc i) d low = omega (arith, suc_times q numbers i d (omega arith))
+
+pub times_next : (q : ℕ) (numbers : List ℕ) (i d : ℕ) → i < length numbers → times q (take (i + 1) numbers) ≡ times q (take i numbers) + cond (nat_eq (slice_index_or numbers i d) q) 1 0
+times_next q numbers i d low = let one : i + 1 ≡ suc i = omega arith in ap (λ (n : ℕ). times q (take n numbers)) one ∙ suc_times q numbers i d low
+
+-- no more than in the whole list
+pub times_take : (q : ℕ) (numbers : List ℕ) (i : ℕ) → times q (take i numbers) ≤ times q numbers
+times_take q [] zero = omega arith
+times_take q [] (suc i) = omega arith
+times_take q (number ∷ numbers) zero = omega arith
+times_take q (number ∷ numbers) (suc i) = omega (arith, times_take q numbers i)
+
+-- a number that comes was not counted yet
+pub times_left : (numbers : List ℕ) (i d : ℕ) → i < length numbers → times (slice_index_or numbers i d) (take i numbers) + 1 ≤ times (slice_index_or numbers i d) numbers
+times_left numbers i d low =
+    let number : ℕ = slice_index_or numbers i d in
+    let own : cond {A = ℕ} (nat_eq number number) 1 0 ≡ 1 = grind (arith, nat_tests) in
+    omega (arith, times_next number numbers i d low, times_take number numbers (i + 1), own)
+
+-- the next shelf
+suc_shelves : (q : ℕ) (shelves : List (Vec ℕ)) (i : ℕ) (d : Vec ℕ) → i < length shelves → times_on q (take (suc i) shelves) ≡ times_on q (take i shelves) + times q (slice_index_or shelves i d).items
+suc_shelves q [] i d low = absurd (omega (arith, low))
+suc_shelves q (shelf ∷ shelves) zero d low = omega arith
+suc_shelves q (shelf ∷ shelves) (suc i) d low = omega (arith, suc_shelves q shelves i d (omega arith))
+
+pub shelves_next : (q : ℕ) (shelves : List (Vec ℕ)) (i : ℕ) (d : Vec ℕ) → i < length shelves → times_on q (take (i + 1) shelves) ≡ times_on q (take i shelves) + times q (slice_index_or shelves i d).items
+shelves_next q shelves i d low = let one : i + 1 ≡ suc i = omega arith in ap (λ (n : ℕ). times_on q (take n shelves)) one ∙ suc_shelves q shelves i d low
+
+pub shelves_take : (q : ℕ) (shelves : List (Vec ℕ)) (i : ℕ) → times_on q (take i shelves) ≤ times_on q shelves
+shelves_take q [] zero = omega arith
+shelves_take q [] (suc i) = omega arith
+shelves_take q (shelf ∷ shelves) zero = omega arith
+shelves_take q (shelf ∷ shelves) (suc i) = omega (arith, shelves_take q shelves i)
+
+-- where none waits, no producer does
+none_late : (late : Shelves) → ((q : ℕ) → waits late q ≡ 0) → (tid : Tid) → late_of late tid ≡ 0
+none_late late empty Lead = refl
+none_late late empty (Task id) = refl
+none_late late empty (Raw number) = empty number
+
+module _ (tables : Tables) (late : Shelves) (entries : List Entry) where
+  -- where none waits, the tables are those of the entries
+  pub caught_up : ((q : ℕ) → waits late q ≡ 0) → Lags tables late entries → Keeps tables entries
+  caught_up empty lags = record {
+    epochs = λ tid. omega (arith, lags.epochs tid, none_late late empty tid);
+    committed = lags.committed;
+    parts = lags.parts;
+  }
+
+  -- and the other way round
+  pub lags_none : ((q : ℕ) → waits late q ≡ 0) → Keeps tables entries → Lags tables late entries
+  lags_none empty kept = record {
+    epochs = λ tid. omega (arith, kept.epochs tid, none_late late empty tid);
+    committed = kept.committed;
+    parts = kept.parts;
+  }
+
+  -- the epochs of those that wait were raised
+  pub lags_raised : (epochs : Epochs) (after : Shelves) → ((tid : Tid) → epoch_at epochs tid ≡ epoch_at tables.epochs tid + late_of late tid) → ((q : ℕ) → waits after q ≡ 0) → Lags tables late entries
+      → Lags (record { epochs = epochs; committed = tables.committed; parts = tables.parts }) after entries
+  lags_raised epochs after raised empty lags = record {
+    epochs = λ tid. omega (arith, raised tid, lags.epochs tid, none_late after empty tid);
+    committed = lags.committed;
+    parts = lags.parts;
+  }
+
+  -- tables that read the same lag the same
+  pub lags_same : (new : Tables) → SameRows tables new → Lags tables late entries → Lags new late entries
+  lags_same new same lags = record {
+    epochs = λ tid. omega (arith, same.epochs tid, lags.epochs tid);
+    committed = λ tag. same.committed tag ∙ lags.committed tag;
+    parts = λ part. same.parts part ∙ lags.parts part;
+  }
+
+  -- one bump more waits
+  pub lags_bump : (after : Shelves) (number : ℕ) → ((q : ℕ) → waits after q ≡ waits late q + cond (nat_eq number q) 1 0) → Lags tables late entries → Lags tables after (entries ++ Bump (Raw number) ∷ [])
+  lags_bump after number put lags = record {
+    epochs = λ tid. omega (arith, lags.epochs tid, epoch_of-push tid entries (Bump (Raw number)), one_late tid);
+    committed = λ tag. lags.committed tag ∙ sym (is_committed-push tag entries (Bump (Raw number)) ∙ or_no (is_committed tag entries));
+    parts = λ part. lags.parts part ∙ sym (history-push part entries (Bump (Raw number)));
+  }
+    where
+      or_no : (b : Bool) → (b || false) ≡ b
+      or_no true = refl
+      or_no false = refl
+
+      turned : (q : ℕ) → cond {A = ℕ} (nat_eq number q) 1 0 ≡ cond (nat_eq q number) 1 0
+      turned q = grind (arith, nat_tests)
+
+      one_late : (tid : Tid) → late_of after tid ≡ late_of late tid + cond (same_tid tid (Raw number)) 1 0
+      one_late Lead = omega arith
+      one_late (Task id) = omega arith
+      one_late (Raw q) = omega (arith, put q, turned q)
+
+  -- no epoch is more than the entries
+  pub epochs_fit : length entries ≤ 2 ^ 31 → Lags tables late entries → (tid : Tid) → epoch_at tables.epochs tid + late_of late tid < 2 ^ 32
+  epochs_fit few lags tid = omega (arith, few, lags.epochs tid, epoch_of_le tid entries)
+
+-- a walk whose tables caught up
+pub is_settled : (walk : Walk) (tables : Tables) (late : Shelves) (settled : ℕ) → Walked walk → Found walk.not_allowed tables late walk.entries.items walk.gates.items walk.unchained → ((q : ℕ) → waits late q ≡ 0)
+    → IsSettled walk (record walk { tables = tables; late = late; settled = settled })
+is_settled walk tables late settled walked found empty = record {
+  entries = refl;
+  gates = refl;
+  walked = record { counted = walked.counted; few = walked.few; aligned = walked.aligned; found = found };
+  none = empty;
+}
+
+-- what is found where the epochs were raised
+pub found_raised : (not_allowed unchained : Option ℕ) (tables : Tables) (late after : Shelves) (entries : List Entry) (gates : List ℕ) (epochs : Epochs)
+    → Found not_allowed tables late entries gates unchained → ((tid : Tid) → epoch_at epochs tid ≡ epoch_at tables.epochs tid + late_of late tid) → ((q : ℕ) → waits after q ≡ 0)
+    → Found not_allowed (record { epochs = epochs; committed = tables.committed; parts = tables.parts }) after entries gates unchained
+found_raised None unchained tables late after entries gates epochs found raised empty =
+    record { allowed = found.allowed; lags = lags_raised tables late entries epochs after raised empty found.lags; chained = found.chained }
+found_raised (Some gate) unchained tables late after entries gates epochs found raised empty = found
+
+-- the tables say nothing where an entry isn't allowed
+pub found_any : (not_allowed unchained : Option ℕ) (tables : Tables) (late after : Shelves) (entries : List Entry) (gates : List ℕ) → is_some not_allowed ≡ true
+    → Found not_allowed tables late entries gates unchained → Found not_allowed tables after entries gates unchained
+found_any None unchained tables late after entries gates some found = absurd cc
+found_any (Some gate) unchained tables late after entries gates some found = found
+
+-- an entry that was taken behind a settled walk
+pub took_settled : (old mid new : Walk) (entry : Entry) (gate : ℕ) → IsSettled old mid → Took (entry ∷ []) gate mid new → Took (entry ∷ []) gate old new
+took_settled old mid new entry gate settled took = record {
+  entries = took.entries ∙ ap (λ (l : List Entry). l ++ entry ∷ []) settled.entries;
+  gates = took.gates ∙ ap (λ (l : List ℕ). l ++ gate ∷ []) settled.gates;
+  walked = took.walked;
+}
