@@ -55,12 +55,15 @@ impl Forecast {
         self.known = self.known.saturating_add(!is_new as usize);
     }
 
+    /// Takes the numbers that were counted for a sample: so many of so many. All of these come next.
+    pub fn stand_for(&mut self, sample: usize, numbers: usize) {
+        self.new = scaled(self.new, numbers, sample);
+        self.known = scaled(self.known, numbers, sample);
+    }
+
     /// Expects as many new rows behind these numbers in proportion: these took so many bytes, and so many are left.
     pub fn go_on(&mut self, taken: u64, left: u64) {
-        self.behind = (self.new as u64)
-            .saturating_mul(left)
-            .checked_div(taken)
-            .unwrap_or(0) as usize;
+        self.behind = scaled(self.new, left as usize, taken as usize);
     }
 
     // How many rows the numbers need.
@@ -74,4 +77,9 @@ impl Forecast {
         let rest_of_set = (rows / self.known.saturating_add(1)).saturating_mul(self.new);
         rest_of_set.min(self.behind).max(self.new)
     }
+}
+
+// So many in proportion; none of none.
+fn scaled(count: usize, to: usize, from: usize) -> usize {
+    count.saturating_mul(to).checked_div(from).unwrap_or(0)
 }

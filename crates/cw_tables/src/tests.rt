@@ -89,6 +89,7 @@ fn great_numbers_keep_their_rows_while_the_table_grows(rt: HostRuntime) -> Resul
     for place in 0..5000 {
         forecast.count(place % 2 == 0);
     }
+    forecast.stand_for(5000, 10_000);
     forecast.go_on(5000, 50_000);
     table.make_room(&forecast)?;
     assert!(rt; table.is_free(5));

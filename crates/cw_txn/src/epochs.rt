@@ -4,9 +4,9 @@ ghost use Rattle.std.specs.HashMap.{get};
 ghost use Rattle.cw_types.specs.declared.ids.Tid.{Tid};
 ghost use Rattle.cw_types.specs.Same.{same_tid};
 
-use crate::late::raise_shelves;
+use crate::late::{make_room, raise_shelves};
 use cw_tables::hashed::{has_row, make_row, value_at};
-use cw_tables::{Forecast, Glance, Numbered, SHELVES, Shelves};
+use cw_tables::{Forecast, Glance, Numbered, Shelves};
 use cw_types::Tid;
 use std::alloc::{AllocError, Global};
 use std::collections::HashMap;
@@ -70,8 +70,8 @@ impl Epochs {
         requires { (tid : Tid) → epoch_at self.old tid + late_of late.now tid < 2 ^ 32 }
         ensures { OnOk result ((tid : Tid) → epoch_at self.new tid ≡ epoch_at self.old tid + late_of late.now tid) }
     {
-        let shelves_behind = behind.saturating_add(1).saturating_mul(SHELVES as u64);
-        raise_shelves(&mut self.numbered, late.lists(), shelves_behind)
+        make_room(&mut self.numbered, late, behind)?;
+        raise_shelves(&mut self.numbered, late.lists())
     }
 
     // A row for a producer. The table reads as before.

@@ -5,33 +5,46 @@ ghost use Rattle.cw_tables.specs.Numbered.{numbered_row};
 ghost use Rattle.cw_tables.specs.Shelves.{times, times_on};
 
 use crate::epochs::raise_number;
-use cw_tables::{Forecast, Glance, Numbered};
+use cw_tables::{Forecast, Glance, Numbered, Shelves};
 use std::alloc::{AllocError, Global};
 
-// Raises the epoch of each number on these shelves, as often as it is there. So many shelves of as many numbers may come
-// behind each, from which the room for them is reckoned.
-pub fn raise_shelves(
-    rows: &mut Numbered<u32>,
-    shelves: &[Vec<u32>],
-    behind: u64,
-) -> Result<(), AllocError>
+// Makes room for the numbers that wait, as far as the fullest shelf tells, which is like the others. It is made before any
+// is raised: shelf by shelf, each would fill its part of a table that seems to have room. So many times as many numbers
+// may come behind these.
+pub fn make_room(rows: &mut Numbered<u32>, late: &Shelves, behind: u64) -> Result<(), AllocError>
+    ensures { (q : ℕ) → numbered_row rows.new q ≡ numbered_row rows.old q }
+{
+    if let Some(sample) = fullest(late.lists()) {
+        let mut forecast = forecast_of(rows, sample.as_slice());
+        forecast.stand_for(sample.len(), late.len());
+        forecast.go_on(1, behind);
+        rows.make_room(&forecast)?;
+    }
+    Ok(())
+}
+
+fn fullest(shelves: &[Vec<u32>]) -> Option<&Vec<u32>> {
+    shelves.iter().max_by_key(|shelf| shelf.len())
+}
+
+// Raises the epoch of each number on these shelves, as often as it is there.
+pub fn raise_shelves(rows: &mut Numbered<u32>, shelves: &[Vec<u32>]) -> Result<(), AllocError>
     requires { (q : ℕ) → unwrap_or (numbered_row rows.old q) 0 + times_on q shelves.now < 2 ^ 32 }
     ensures { OnOk result ((q : ℕ) → unwrap_or (numbered_row rows.new q) 0 ≡ unwrap_or (numbered_row rows.old q) 0 + times_on q shelves.now) }
 {
     for shelf in shelves {
-        raise_shelf(rows, shelf.as_slice(), behind)?;
+        raise_shelf(rows, shelf.as_slice())?;
     }
     Ok(())
 }
 
 // Raises the epochs of the numbers on one shelf. Their rows are looked for first, one close behind the other.
-fn raise_shelf(rows: &mut Numbered<u32>, numbers: &[u32], behind: u64) -> Result<(), AllocError>
+fn raise_shelf(rows: &mut Numbered<u32>, numbers: &[u32]) -> Result<(), AllocError>
     requires { (q : ℕ) → unwrap_or (numbered_row rows.old q) 0 + times q numbers.now < 2 ^ 32 }
     ensures { OnOk result ((q : ℕ) → unwrap_or (numbered_row rows.new q) 0 ≡ unwrap_or (numbered_row rows.old q) 0 + times q numbers.now) }
 {
     if rows.lacks_room(&glance_at(rows, numbers)) {
-        let mut forecast = forecast_of(rows, numbers);
-        forecast.go_on(1, behind);
+        let forecast = forecast_of(rows, numbers);
         rows.make_room(&forecast)?;
     }
     raise_each(rows, numbers)
