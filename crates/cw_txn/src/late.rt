@@ -8,12 +8,19 @@ use crate::epochs::raise_number;
 use cw_tables::{Forecast, Glance, Numbered, Shelves};
 use std::alloc::{AllocError, Global};
 
+// So many numbers at most are looked for at once, whatever their shelves, so that the memory near a processor holds what
+// is found.
+const FEW: usize = 4096;
+
 // Makes room for the numbers that wait, as far as the fullest shelf tells, which is like the others. It is made before any
 // is raised: shelf by shelf, each would fill its part of a table that seems to have room. So many times as many numbers
 // may come behind these.
 pub fn make_room(rows: &mut Numbered<u32>, late: &Shelves, behind: u64) -> Result<(), AllocError>
     ensures { (q : ℕ) → numbered_row rows.new q ≡ numbered_row rows.old q }
 {
+    if late.len() <= FEW && !rows.lacks_room(&glance_at_all(rows, late.lists())) {
+        return Ok(());
+    }
     if let Some(sample) = fullest(late.lists()) {
         let mut forecast = forecast_of(rows, sample.as_slice());
         forecast.stand_for(sample.len(), late.len());
@@ -21,6 +28,20 @@ pub fn make_room(rows: &mut Numbered<u32>, late: &Shelves, behind: u64) -> Resul
         rows.make_room(&forecast)?;
     }
     Ok(())
+}
+
+fn glance_at_all(rows: &Numbered<u32>, shelves: &[Vec<u32>]) -> Glance {
+    let mut glance = Glance::NONE;
+    for shelf in shelves {
+        glance_at(rows, shelf.as_slice(), &mut glance);
+    }
+    glance
+}
+
+fn glance_at(rows: &Numbered<u32>, numbers: &[u32], glance: &mut Glance) {
+    for number in numbers {
+        glance.note(rows.is_free(*number));
+    }
 }
 
 fn fullest(shelves: &[Vec<u32>]) -> Option<&Vec<u32>> {
@@ -43,19 +64,13 @@ fn raise_shelf(rows: &mut Numbered<u32>, numbers: &[u32]) -> Result<(), AllocErr
     requires { (q : ℕ) → unwrap_or (numbered_row rows.old q) 0 + times q numbers.now < 2 ^ 32 }
     ensures { OnOk result ((q : ℕ) → unwrap_or (numbered_row rows.new q) 0 ≡ unwrap_or (numbered_row rows.old q) 0 + times q numbers.now) }
 {
-    if rows.lacks_room(&glance_at(rows, numbers)) {
+    let mut glance = Glance::NONE;
+    glance_at(rows, numbers, &mut glance);
+    if rows.lacks_room(&glance) {
         let forecast = forecast_of(rows, numbers);
         rows.make_room(&forecast)?;
     }
     raise_each(rows, numbers)
-}
-
-fn glance_at(rows: &Numbered<u32>, numbers: &[u32]) -> Glance {
-    let mut glance = Glance::NONE;
-    for number in numbers {
-        glance.note(rows.is_free(*number));
-    }
-    glance
 }
 
 fn forecast_of(rows: &Numbered<u32>, numbers: &[u32]) -> Forecast {

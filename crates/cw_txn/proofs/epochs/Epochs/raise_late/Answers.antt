@@ -1,4 +1,4 @@
-use Rattle.std.proofs.Common.{◌≡◌, ◌<◌, ◌+◌, ℕ, Option, unwrap_or, ap, arith}
+use Rattle.std.proofs.Common.{◌≡◌, ℕ, Option, unwrap_or, ap, arith}
 use Rattle.cw_types.specs.declared.ids.Tid.TheVariants.{Raw}
 use Rattle.cw_tables.specs.Numbered.{numbered_row}
 use Rattle.cw_txn.proofs.epochs.Epochs.raise_late.Goals as goal
