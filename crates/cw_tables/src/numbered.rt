@@ -1,5 +1,5 @@
 //! A table by numbers, most of which are small.
-ghost use Rattle.std.specs.Prelude.{◌≡◌, ◌<◌, ℕ, nat_eq, nat_lt, true, length, OnOk, IsSome, Some, None, unwrap_or, if◌then◌else◌};
+ghost use Rattle.std.specs.Prelude.{◌≡◌, ◌<◌, ℕ, nat_eq, nat_lt, true, length, OnOk, OnErr, IsSome, Some, None, unwrap_or, if◌then◌else◌};
 
 use crate::forecast::{Forecast, Glance};
 use crate::sparse::Sparse;
@@ -89,7 +89,8 @@ impl<V: Copy + Drop> Numbered<V> {
     /// Sets the value of a number, which should have no row yet, in a new row, and may make others, each of which reads
     /// as a missing one.
     pub fn insert(&mut self, number: u32, value: V, missing: V) -> Result<(), AllocError>
-        ensures { OnOk result ((q : ℕ) → unwrap_or (numbered_row self.new q) missing ≡ (if nat_eq number q then value else unwrap_or (numbered_row self.old q) missing)) }
+        ensures put { OnOk result ((q : ℕ) → unwrap_or (numbered_row self.new q) missing ≡ (if nat_eq number q then value else unwrap_or (numbered_row self.old q) missing)) }
+        ensures same { OnErr result ((q : ℕ) → unwrap_or (numbered_row self.new q) missing ≡ unwrap_or (numbered_row self.old q) missing) }
     {
         if self.is_listed(number) {
             self.lengthen(number, missing)?;

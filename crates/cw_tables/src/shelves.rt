@@ -1,6 +1,6 @@
 //! Numbers that wait, by the places of their rows.
 ghost use Rattle.std.specs.Prelude.{◌≡◌, ◌<◌, ◌+◌, ℕ, nat_eq, true, length, OnOk, OnErr, if◌then◌else◌};
-ghost use Rattle.cw_tables.specs.Shelves.{times_on};
+ghost use Rattle.cw_tables.specs.Shelves.{count_on, times_on};
 ghost use Rattle.std.proofs.Props.{props};
 
 use crate::sparse::home;
@@ -18,15 +18,16 @@ const SHIFT: u32 = 24;
 pub struct Shelves {
     shelves: Vec<Vec<u32>>,
     length: usize,
-    ghost none: { length ≡ 0 → (q : ℕ) → times_on q shelves.items ≡ 0 } by { Prim.hlevel props },
+    ghost counted: { length ≡ count_on shelves.items } by { Prim.hlevel props },
 }
 
 impl Shelves {
-    ghost use Rattle.cw_tables.specs.Waiting.{waits};
+    ghost use Rattle.cw_tables.specs.Waiting.{how_many, waits};
 
     /// With no number, and no memory.
     pub fn new(alloc: Global) -> Shelves
-        ensures { (q : ℕ) → waits result q ≡ 0 }
+        ensures waits { (q : ℕ) → waits result q ≡ 0 }
+        ensures count { how_many result ≡ 0 }
     {
         Shelves {
             shelves: Vec::new(alloc),
@@ -37,7 +38,7 @@ impl Shelves {
     /// How many numbers wait.
     #[inline]
     pub fn len(&self) -> usize
-        ensures { result ≡ 0 → (q : ℕ) → waits self.now q ≡ 0 }
+        ensures { result ≡ how_many self.now }
     {
         self.length
     }
@@ -45,7 +46,8 @@ impl Shelves {
     /// Whether no number waits.
     #[inline]
     pub fn is_empty(&self) -> bool
-        ensures { result ≡ true → (q : ℕ) → waits self.now q ≡ 0 }
+        ensures count { result ≡ nat_eq (how_many self.now) 0 }
+        ensures none { result ≡ true → (q : ℕ) → waits self.now q ≡ 0 }
     {
         self.length == 0
     }
@@ -53,18 +55,24 @@ impl Shelves {
     /// Puts a number on its shelf.
     pub fn put(&mut self, number: u32) -> Result<(), AllocError>
         ensures put { OnOk result ((q : ℕ) → waits self.new q ≡ waits self.old q + (if nat_eq number q then 1 else 0)) }
+        ensures count { OnOk result (how_many self.new ≡ how_many self.old + 1) }
         ensures same { OnErr result ((q : ℕ) → waits self.new q ≡ waits self.old q) }
+        ensures same_count { OnErr result (how_many self.new ≡ how_many self.old) }
     {
+        if self.length == usize::MAX {
+            return Err(AllocError);
+        }
         let shelf = home(number, SHIFT);
         reach(&mut self.shelves, shelf)?;
         put_on(&mut self.shelves, shelf, number)?;
-        self.length = self.length.saturating_add(1);
+        self.length += 1;
         Ok(())
     }
 
     /// The numbers, one list a shelf.
     pub fn lists(&self) -> &[Vec<u32>]
-        ensures { (q : ℕ) → times_on q result.now ≡ waits self.now q }
+        ensures waits { (q : ℕ) → times_on q result.now ≡ waits self.now q }
+        ensures count { count_on result.now ≡ how_many self.now }
     {
         self.shelves.as_slice()
     }
@@ -72,7 +80,8 @@ impl Shelves {
     /// Takes all numbers off, and keeps their memory.
     #[tactic(auto, using(crate::proofs::ShelfLemmas::times_on_more))]
     pub fn clear(&mut self)
-        ensures { (q : ℕ) → waits self.new q ≡ 0 }
+        ensures waits { (q : ℕ) → waits self.new q ≡ 0 }
+        ensures count { how_many self.new ≡ 0 }
     {
         for shelf in self.shelves.iter_mut() {
             shelf.clear();
@@ -82,9 +91,10 @@ impl Shelves {
 }
 
 // Shelves up to this one.
-#[tactic(auto, using(crate::proofs::ShelfLemmas::times_on_more))]
+#[tactic(auto, using(crate::proofs::ShelfLemmas::times_on_more, crate::proofs::ShelfLemmas::count_on_more))]
 fn reach(shelves: &mut Vec<Vec<u32>>, shelf: usize) -> Result<(), AllocError>
     ensures same { (q : ℕ) → times_on q shelves.new.items ≡ times_on q shelves.old.items }
+    ensures count { count_on shelves.new.items ≡ count_on shelves.old.items }
     ensures there { OnOk result (shelf < length shelves.new.items) }
 {
     while shelves.len() <= shelf {
@@ -98,6 +108,8 @@ fn put_on(shelves: &mut Vec<Vec<u32>>, shelf: usize, number: u32) -> Result<(), 
     requires { shelf < length shelves.old.items }
     ensures put { OnOk result ((q : ℕ) → times_on q shelves.new.items ≡ times_on q shelves.old.items + (if nat_eq number q then 1 else 0)) }
     ensures same { OnErr result ((q : ℕ) → times_on q shelves.new.items ≡ times_on q shelves.old.items) }
+    ensures count { OnOk result (count_on shelves.new.items ≡ count_on shelves.old.items + 1) }
+    ensures same_count { OnErr result (count_on shelves.new.items ≡ count_on shelves.old.items) }
 {
     shelves[shelf].push(number)?;
     Ok(())
