@@ -1,6 +1,7 @@
 -- Numbers on shelves. A number may be there more than once.
-use Rattle.std.specs.Prelude.{ℕ, ◌+◌, nat_eq, List, [], ◌∷◌, length, if◌then◌else◌}
+use Rattle.std.specs.Prelude.{◌≡◌, ◌≢◌, ℕ, suc, zero, ◌+◌, nat_eq, List, [], ◌∷◌, length, if◌then◌else◌}
 use Rattle.std.specs.Global.{Vec}
+use Rattle.cw_tables.specs.Sparse.{home_of}
 
 -- how often a number is in a list
 abbrev pub times : ℕ → List ℕ → ℕ
@@ -16,3 +17,17 @@ count_on (shelf ∷ shelves) = length shelf.items + count_on shelves
 abbrev pub times_on : ℕ → List (Vec ℕ) → ℕ
 times_on number [] = 0
 times_on number (shelf ∷ shelves) = times number shelf.items + times_on number shelves
+
+-- the numbers of one shelf; none where it isn't there yet
+abbrev pub numbers_of : List (Vec ℕ) → ℕ → List ℕ
+numbers_of [] at = []
+numbers_of (shelf ∷ shelves) zero = shelf.items
+numbers_of (shelf ∷ shelves) (suc at) = numbers_of shelves at
+
+-- which shelf a number has
+abbrev pub place_of : ℕ → ℕ
+place_of number = home_of number 24
+
+-- each number is on its own shelf
+abbrev pub ArePlaced : List (Vec ℕ) → Type 0
+ArePlaced shelves = (q at : ℕ) → place_of q ≢ at → times q (numbers_of shelves at) ≡ 0

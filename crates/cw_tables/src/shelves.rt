@@ -1,6 +1,6 @@
 //! Numbers that wait, by the places of their rows.
-ghost use Rattle.std.specs.Prelude.{◌≡◌, ◌<◌, ◌+◌, ℕ, nat_eq, true, length, OnOk, OnErr, if◌then◌else◌};
-ghost use Rattle.cw_tables.specs.Shelves.{count_on, times_on};
+ghost use Rattle.std.specs.Prelude.{◌≡◌, ◌<◌, ◌+◌, ◌^◌, ℕ, nat_eq, true, length, OnOk, OnErr, if◌then◌else◌};
+ghost use Rattle.cw_tables.specs.Shelves.{ArePlaced, count_on, numbers_of, place_of, times, times_on};
 ghost use Rattle.std.proofs.Props.{props};
 
 use crate::sparse::home;
@@ -19,10 +19,11 @@ pub struct Shelves {
     shelves: Vec<Vec<u32>>,
     length: usize,
     ghost counted: { length ≡ count_on shelves.items } by { Prim.hlevel props },
+    ghost placed: { ArePlaced shelves.items } by { Prim.hlevel props },
 }
 
 impl Shelves {
-    ghost use Rattle.cw_tables.specs.Waiting.{how_many, waits};
+    ghost use Rattle.cw_tables.specs.Waiting.{beside, how_many, waits};
 
     /// With no number, and no memory.
     pub fn new(alloc: Global) -> Shelves
@@ -52,7 +53,25 @@ impl Shelves {
         self.length == 0
     }
 
+    /// How often a number waits. It costs a look at each number of its shelf.
+    #[tactic(auto, using(crate::proofs::ShelfLemmas::times_placed))]
+    pub fn count(&self, number: u32) -> usize
+        ensures waits { result ≡ waits self.now number }
+        ensures few { result < 2 ^ 63 }
+    {
+        times(self.beside(number), number)
+    }
+
+    /// The numbers on the shelf of this one.
+    #[inline]
+    pub fn beside(&self, number: u32) -> &[u32]
+        ensures { result.now ≡ beside self.now number }
+    {
+        numbers_of(&self.shelves, home(number, SHIFT))
+    }
+
     /// Puts a number on its shelf.
+    #[tactic(auto, using(crate::proofs::ShelfLemmas::placed_same))]
     pub fn put(&mut self, number: u32) -> Result<(), AllocError>
         ensures put { OnOk result ((q : ℕ) → waits self.new q ≡ waits self.old q + (if nat_eq number q then 1 else 0)) }
         ensures count { OnOk result (how_many self.new ≡ how_many self.old + 1) }
@@ -78,22 +97,21 @@ impl Shelves {
     }
 
     /// Takes all numbers off, and keeps their memory.
-    #[tactic(auto, using(crate::proofs::ShelfLemmas::times_on_more))]
+    #[tactic(auto, using(crate::proofs::ShelfLemmas::none_placed))]
     pub fn clear(&mut self)
         ensures waits { (q : ℕ) → waits self.new q ≡ 0 }
         ensures count { how_many self.new ≡ 0 }
     {
-        for shelf in self.shelves.iter_mut() {
-            shelf.clear();
-        }
+        clear_each(&mut self.shelves);
         self.length = 0;
     }
 }
 
 // Shelves up to this one.
-#[tactic(auto, using(crate::proofs::ShelfLemmas::times_on_more, crate::proofs::ShelfLemmas::count_on_more))]
+#[tactic(auto, using(crate::proofs::ShelfLemmas::times_on_more, crate::proofs::ShelfLemmas::count_on_more, crate::proofs::ShelfLemmas::numbers_of_more))]
 fn reach(shelves: &mut Vec<Vec<u32>>, shelf: usize) -> Result<(), AllocError>
-    ensures same { (q : ℕ) → times_on q shelves.new.items ≡ times_on q shelves.old.items }
+    ensures same { (at : ℕ) → numbers_of shelves.new.items at ≡ numbers_of shelves.old.items at }
+    ensures waits { (q : ℕ) → times_on q shelves.new.items ≡ times_on q shelves.old.items }
     ensures count { count_on shelves.new.items ≡ count_on shelves.old.items }
     ensures there { OnOk result (shelf < length shelves.new.items) }
 {
@@ -110,7 +128,44 @@ fn put_on(shelves: &mut Vec<Vec<u32>>, shelf: usize, number: u32) -> Result<(), 
     ensures same { OnErr result ((q : ℕ) → times_on q shelves.new.items ≡ times_on q shelves.old.items) }
     ensures count { OnOk result (count_on shelves.new.items ≡ count_on shelves.old.items + 1) }
     ensures same_count { OnErr result (count_on shelves.new.items ≡ count_on shelves.old.items) }
+    ensures placed { place_of number ≡ shelf → ArePlaced shelves.old.items → ArePlaced shelves.new.items }
 {
     shelves[shelf].push(number)?;
     Ok(())
+}
+
+fn clear_each(shelves: &mut Vec<Vec<u32>>)
+    ensures waits { (q : ℕ) → times_on q shelves.new.items ≡ 0 }
+    ensures count { count_on shelves.new.items ≡ 0 }
+{
+    for shelf in shelves.iter_mut() {
+        shelf.clear();
+    }
+}
+
+// The numbers of one shelf.
+#[inline]
+#[tactic(auto, using(crate::proofs::ShelfLemmas::numbers_of_at, crate::proofs::ShelfLemmas::numbers_of_past))]
+fn numbers_of(shelves: &[Vec<u32>], shelf: usize) -> &[u32]
+    ensures { result.now ≡ numbers_of shelves.now shelf }
+{
+    match shelves.get(shelf) {
+        Some(numbers) => numbers.as_slice(),
+        None => &[],
+    }
+}
+
+// How often a number is among these.
+#[tactic(auto, using(crate::proofs::ShelfLemmas::times_next, crate::proofs::ShelfLemmas::times_take, crate::proofs::ShelfLemmas::times_le))]
+fn times(numbers: &[u32], number: u32) -> usize
+    ensures times { result ≡ times number numbers.now }
+    ensures few { result < 2 ^ 63 }
+{
+    let mut count = 0;
+    for other in numbers {
+        if *other == number {
+            count += 1;
+        }
+    }
+    count
 }

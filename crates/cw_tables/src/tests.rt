@@ -130,8 +130,15 @@ fn numbers_on_shelves_wait_until_they_are_cleared(rt: HostRuntime) -> Result<(),
         waiting = list.len().saturating_add(waiting);
     }
     assert_eq!(rt; waiting, 2000);
+    // Each of the first half waits three times.
+    assert_eq!(rt; shelves.count(great(0)), 3);
+    assert_eq!(rt; shelves.count(great(999)), 1);
+    assert_eq!(rt; shelves.count(great(1000)), 0);
+    assert!(rt; shelves.beside(great(0)).contains(&great(0)));
+    assert!(rt; shelves.beside(great(0)).len() < 100);
     shelves.clear();
     assert!(rt; shelves.is_empty());
+    assert_eq!(rt; shelves.count(great(0)), 0);
     shelves.put(7)?;
     assert_eq!(rt; shelves.len(), 1);
     Ok(())

@@ -3,6 +3,7 @@ use Rattle.std.proofs.Common.{◌≡◌, ◌<◌, ◌≤◌, ◌+◌, ◌^◌, �
 use Rattle.std.proofs.lemmas.Bool.Decides.{nat_tests}
 use Rattle.std.specs.Global.{Vec}
 use Rattle.cw_tables.specs.Shelves.{times, times_on}
+use Rattle.cw_tables.proofs.ShelfLemmas.{times_next, times_take}
 use Rattle.cw_tables.specs.declared.shelves.Shelves.{Shelves}
 use Rattle.cw_tables.specs.Waiting.{waits}
 use Rattle.cw_types.specs.declared.ids.Tid.{Tid}
@@ -19,22 +20,6 @@ use Rattle.cw_txn.specs.Tables.{Keeps, SameRows}
 use Rattle.cw_txn.specs.Late.{late_of, Lags}
 use Rattle.cw_txn.specs.Walk.{Found, IsSettled, Took, Walked}
 use Rattle.cw_txn.proofs.Walks.{epoch_of-push, is_committed-push, history-push, epoch_of_le}
-
--- the next number of a list
-suc_times : (q : ℕ) (numbers : List ℕ) (i d : ℕ) → i < length numbers → times q (take (suc i) numbers) ≡ times q (take i numbers) + cond (nat_eq (slice_index_or numbers i d) q) 1 0
-suc_times q [] i d low = absurd (omega (arith, low))
-suc_times q (number ∷ numbers) zero d low = omega arith
-suc_times q (number ∷ numbers) (suc i) d low = omega (arith, suc_times q numbers i d (omega arith))
-
-pub times_next : (q : ℕ) (numbers : List ℕ) (i d : ℕ) → i < length numbers → times q (take (i + 1) numbers) ≡ times q (take i numbers) + cond (nat_eq (slice_index_or numbers i d) q) 1 0
-times_next q numbers i d low = let one : i + 1 ≡ suc i = omega arith in ap (λ (n : ℕ). times q (take n numbers)) one ∙ suc_times q numbers i d low
-
--- no more than in the whole list
-pub times_take : (q : ℕ) (numbers : List ℕ) (i : ℕ) → times q (take i numbers) ≤ times q numbers
-times_take q [] zero = omega arith
-times_take q [] (suc i) = omega arith
-times_take q (number ∷ numbers) zero = omega arith
-times_take q (number ∷ numbers) (suc i) = omega (arith, times_take q numbers i)
 
 -- a number that comes was not counted yet
 pub times_left : (numbers : List ℕ) (i d : ℕ) → i < length numbers → times (slice_index_or numbers i d) (take i numbers) + 1 ≤ times (slice_index_or numbers i d) numbers
@@ -71,14 +56,6 @@ module _ (tables : Tables) (late : Shelves) (entries : List Entry) where
     epochs = λ tid. omega (arith, lags.epochs tid, none_late late empty tid);
     committed = lags.committed;
     parts = lags.parts;
-  }
-
-  -- and the other way round
-  pub lags_none : ((q : ℕ) → waits late q ≡ 0) → Keeps tables entries → Lags tables late entries
-  lags_none empty kept = record {
-    epochs = λ tid. omega (arith, kept.epochs tid, none_late late empty tid);
-    committed = kept.committed;
-    parts = kept.parts;
   }
 
   -- the epochs of those that wait were raised

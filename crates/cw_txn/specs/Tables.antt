@@ -1,5 +1,5 @@
 -- What the coordinator's tables keep of its list, so that no look-up walks it. Internal: no public contract cites this.
-use Rattle.std.specs.Prelude.{◌≡◌, ℕ, ◌+◌, ◌≤◌, Bool, false, List, length, Contains, [], ◌∷◌, ◌&&◌, is_some, IsSome, All, if◌then◌else◌, slice_index_or, take, ◌<◌, ◌^◌}
+use Rattle.std.specs.Prelude.{◌≡◌, ℕ, ◌+◌, ◌≤◌, Bool, false, ◌||◌, List, length, Contains, [], ◌∷◌, ◌&&◌, is_some, IsSome, All, if◌then◌else◌, slice_index_or, take, ◌<◌, ◌^◌}
 use Rattle.std.specs.Str.{bytes_eq}
 use Rattle.cw_types.specs.declared.ids.Tid.{Tid}
 use Rattle.cw_types.specs.declared.ids.Tag.{Tag}
@@ -14,8 +14,9 @@ use Rattle.cw_txn.specs.EpochRows.{epoch_row, epoch_at}
 use Rattle.cw_txn.specs.PartRows.{history_at, HasPart}
 use Rattle.cw_txn.specs.declared.tables.Tables.{Tables}
 use Rattle.cw_txn.specs.Committed.{committed_at, HasTag}
-use Rattle.cw_txn.specs.History.{history}
-use Rattle.cw_txn.specs.Legal.{epoch_of, is_committed, IsLegal, Chains}
+use Rattle.cw_txn.specs.History.{history, after_entry}
+use Rattle.cw_txn.specs.declared.parts.Parts.{Parts}
+use Rattle.cw_txn.specs.Legal.{epoch_of, is_bump_of, is_commit_of, is_committed, IsLegal, Chains}
 
 -- the entry that is borrowed in parts
 abbrev pub entry_of : EntryRef → Entry
@@ -28,6 +29,16 @@ pub record Keeps (tables : Tables) (entries : List Entry) : Type 0 where
   pub epochs : (tid : Tid) → epoch_at tables.epochs tid ≡ epoch_of tid entries
   pub committed : (tag : Tag) → committed_at tables.committed tag ≡ is_committed tag entries
   pub parts : (part : PartKey) → history_at tables.parts part ≡ history part entries
+
+-- these are the histories of the entries' parts
+abbrev pub AreHistories : Parts → List Entry → Type 0
+AreHistories parts entries = (part : PartKey) → history_at parts part ≡ history part entries
+
+-- the tables say one entry more
+pub record Adds (entry : Entry) (old new : Tables) : Type 0 where
+  pub epochs : (tid : Tid) → epoch_at new.epochs tid ≡ epoch_at old.epochs tid + (if is_bump_of tid entry then 1 else 0)
+  pub committed : (tag : Tag) → committed_at new.committed tag ≡ (committed_at old.committed tag || is_commit_of tag entry)
+  pub parts : (part : PartKey) → history_at new.parts part ≡ after_entry part (history_at old.parts part) entry
 
 -- whether a part is a connector's
 abbrev pub is_of : List ℕ → PartKey → Bool

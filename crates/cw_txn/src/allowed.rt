@@ -9,41 +9,50 @@ ghost use Rattle.cw_txn.specs.declared.entry.Entry.{Entry};
 ghost use Rattle.cw_txn.specs.declared.entry.SetOffset.{SetOffset};
 ghost use Rattle.cw_types.specs.Same.{same_part, part_eq, connector_of};
 ghost use Rattle.cw_txn.specs.Allowed.{IsRaw, IsSourceOf, IsSinkOf, CommitsOwn, SetsOwn, IsAllowedBehind, IsAllowedCommit, IsAllowedSet};
-ghost use Rattle.cw_txn.specs.Tables.{Keeps, is_of};
+ghost use Rattle.cw_txn.specs.Tables.{is_of};
+ghost use Rattle.cw_txn.specs.Late.{Lags};
 
 use crate::coordinator::have_distinct_parts;
 use crate::entry::{Entry, SetOffset};
 use crate::tables::{Tables, is_of, same_names};
+use cw_tables::Shelves;
 use cw_types::{Epoch, Name, PartKey, Span, Tag, Tid};
 use std::alloc::{AllocError, Global};
 use std::collections::HashMap;
 
-// Whether an entry may stand at this place, behind those of the tables.
+// Whether an entry may stand at this place, behind those of the tables and the bumps that wait.
 pub fn is_allowed(
     alloc: Global,
     tables: &Tables,
+    late: &Shelves,
     place: usize,
     entry: &Entry,
 ) -> Result<bool, AllocError>
-    ensures { IfOk result (λ allowed. (before : List Entry) → Keeps tables.now before → length before ≡ place →
+    ensures { IfOk result (λ allowed. (before : List Entry) → Lags tables.now late.now before → length before ≡ place →
         IsTrue allowed ↔ IsAllowedBehind before entry.now) }
 {
     match entry {
         Entry::Bump(_) => Ok(true),
         Entry::Commit { tag, spans, .. } => {
-            Ok(is_allowed_commit(tables, place, tag, spans.as_slice()))
+            Ok(is_allowed_commit(tables, late, place, tag, spans.as_slice()))
         }
         Entry::Set { tid, epoch, list } => {
-            is_allowed_set(alloc, tables, tid, *epoch, list.as_slice())
+            is_allowed_set(alloc, tables, late, tid, *epoch, list.as_slice())
         }
     }
 }
 
-fn is_allowed_commit(tables: &Tables, place: usize, tag: &Tag, spans: &[Span]) -> bool
-    ensures { (before : List Entry) (generation : ℕ) → Keeps tables.now before → length before ≡ place →
+fn is_allowed_commit(
+    tables: &Tables,
+    late: &Shelves,
+    place: usize,
+    tag: &Tag,
+    spans: &[Span],
+) -> bool
+    ensures { (before : List Entry) (generation : ℕ) → Lags tables.now late.now before → length before ≡ place →
         IsTrue result ↔ IsAllowedCommit before tag.now generation spans.now }
 {
-    tag.epoch.0 == tables.epoch(&tag.tid)
+    tag.epoch.0 == tables.epochs.epoch_with(late, &tag.tid)
         && !tables.is_committed(tag)
         && !spans.is_empty()
         && spans.len() <= 16
@@ -54,15 +63,16 @@ fn is_allowed_commit(tables: &Tables, place: usize, tag: &Tag, spans: &[Span]) -
 fn is_allowed_set(
     alloc: Global,
     tables: &Tables,
+    late: &Shelves,
     tid: &Tid,
     epoch: Epoch,
     list: &[SetOffset],
 ) -> Result<bool, AllocError>
-    ensures { IfOk result (λ allowed. (before : List Entry) → Keeps tables.now before →
+    ensures { IfOk result (λ allowed. (before : List Entry) → Lags tables.now late.now before →
         IsTrue allowed ↔ IsAllowedSet before tid.now (Entry.Set tid.now epoch list.now) list.now) }
 {
     let distinct = are_of_distinct_parts(alloc, list)?;
-    Ok(distinct && epoch.0 == tables.epoch(tid) && sets_own(tid, list))
+    Ok(distinct && epoch.0 == tables.epochs.epoch_with(late, tid) && sets_own(tid, list))
 }
 
 // Whether the spans are of the producer's own parts, and a script's number is its place.

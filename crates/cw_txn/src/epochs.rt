@@ -42,6 +42,20 @@ impl Epochs {
         }
     }
 
+    // The epoch of a producer, with the bumps that wait.
+    pub fn epoch_with(&self, late: &Shelves, tid: &Tid) -> u64
+        ensures { result ≡ epoch_at self.now tid.now + late_of late.now tid.now }
+    {
+        match tid {
+            Tid::Lead => self.epoch(tid),
+            Tid::Task(_) => self.epoch(tid),
+            Tid::Raw(number) => {
+                let raised = self.numbered.get(*number).unwrap_or(0);
+                raised as u64 + late.count(*number) as u64
+            }
+        }
+    }
+
     // Looks for the row of a script's producer.
     #[inline]
     pub fn glance(&self, tid: &Tid, glance: &mut Glance) {

@@ -8,7 +8,7 @@ ghost use Rattle.cw_txn.specs.Legal.{Chains};
 ghost use Rattle.cw_txn.specs.Allowed.{AreAllowed, IsFirstNotAllowed, IsFirstUnchained};
 ghost use Rattle.cw_txn.specs.Body.{AreEntries, entries_bytes};
 ghost use Rattle.cw_txn.specs.BodyReading.{entry_at, entries_at, body_at};
-ghost use Rattle.cw_txn.specs.Walk.{OnListFault, Walked};
+ghost use Rattle.cw_txn.specs.Walk.{OnListFault, Took, Walked};
 ghost use Rattle.cw_txn.specs.Queue.{Queued, Settled, TookAll};
 ghost use Rattle.cw_txn.specs.Replayed.{TakesBody};
 
@@ -22,8 +22,14 @@ use cw_types::{Past, Tid};
 use std::alloc::{AllocError, Global};
 use std::marker::Model;
 
-// So many entries wait at most, whose rows are looked for together.
-const MOST_WAITING: usize = 32;
+// So many entries at most wait for their rows, which are looked for together.
+const MOST_LOOKED_FOR: usize = 32;
+
+// So many entries wait at most, with the bumps among them whose rows aren't looked for.
+const MOST_WAITING: usize = 256;
+
+// Bumps are put off where so many came one behind the other.
+const MANY_BUMPS: usize = 4;
 
 /// Why the entries of a log's bodies are none that a coordinator holds.
 #[derive(Clone, Copy, Debug, PartialEq, Eq, Drop)]
@@ -60,13 +66,48 @@ pub struct Replay {
 struct Queue {
     walk: Walk,
     waiting: Vec<Waiting>,
+    // so many of them wait for their rows, and how bumps came; nothing but speed depends on them
+    looked_for: usize,
+    streak: Streak,
 }
 
-// An entry that is read, and the gate of its frame.
+// An entry that is read, and the gate of its frame. Its row is looked for, or it is a bump that is put off.
 #[derive(Drop)]
 struct Waiting {
     entry: Entry,
     gate: u64,
+    is_put_off: bool,
+}
+
+// How many bumps came one behind the other: since the last other entry, and before that. Nothing but speed depends on it.
+#[derive(Clone, Copy, Drop)]
+struct Streak {
+    now: usize,
+    before: usize,
+}
+
+impl Streak {
+    const LONG: Streak = Streak {
+        now: 0,
+        before: MANY_BUMPS,
+    };
+
+    // One entry more.
+    #[inline]
+    fn note(&mut self, entry: &Entry) {
+        if let Entry::Bump(_) = entry {
+            self.now = self.now.saturating_add(1);
+        } else {
+            self.before = self.now;
+            self.now = 0;
+        }
+    }
+
+    // Whether other entries are rare among bumps.
+    #[inline]
+    fn is_long(self) -> bool {
+        self.now.max(self.before) >= MANY_BUMPS
+    }
 }
 
 impl Model for Replay {
@@ -139,6 +180,8 @@ impl Queue {
         Queue {
             walk: Walk::new(alloc, size),
             waiting: Vec::new(alloc),
+            looked_for: 0,
+            streak: Streak::LONG,
         }
     }
 
@@ -204,12 +247,40 @@ impl Queue {
         ensures { OnOk result (Queued (entry ∷ []) gate self.old self.new) }
     {
         self.make_room(alloc)?;
-        if self.waiting.is_empty() {
-            if let Some(number) = late_bump(&self.walk, &entry) {
-                return self.walk.put_off(number, gate);
+        self.streak.note(&entry);
+        match late_bump(&self.walk, &entry) {
+            Some(number) if self.streak.is_long() => self.put_off(number, entry, gate),
+            _ => {
+                self.looked_for = self.looked_for.saturating_add(1);
+                self.wait(entry, gate, false)
             }
         }
-        self.waiting.push(Waiting { entry, gate })?;
+    }
+
+    // One bump more, which is put off, if need be behind the entries that wait.
+    #[inline]
+    fn put_off(&mut self, number: u32, entry: Entry, gate: u64) -> Result<(), AllocError>
+        requires walked { Walked self.old.walk }
+        requires bump { entry ≡ Entry.Bump (Tid.Raw number) }
+        ensures { OnOk result (Queued (entry ∷ []) gate self.old self.new) }
+    {
+        if self.waiting.is_empty() {
+            return self.walk.put_off(number, gate);
+        }
+        self.wait(entry, gate, true)
+    }
+
+    // One entry more that waits behind the others.
+    #[inline]
+    fn wait(&mut self, entry: Entry, gate: u64, is_put_off: bool) -> Result<(), AllocError>
+        requires { Walked self.old.walk }
+        ensures { OnOk result (Queued (entry ∷ []) gate self.old self.new) }
+    {
+        self.waiting.push(Waiting {
+            entry,
+            gate,
+            is_put_off,
+        })?;
         Ok(())
     }
 
@@ -218,7 +289,7 @@ impl Queue {
         requires { Walked self.old.walk }
         ensures { OnOk result (Queued [] 0 self.old self.new) }
     {
-        if self.waiting.len() < MOST_WAITING {
+        if self.looked_for < MOST_LOOKED_FOR && self.waiting.len() < MOST_WAITING {
             return Ok(());
         }
         if lack_room(&self.walk.tables, &self.waiting) {
@@ -227,6 +298,7 @@ impl Queue {
         }
         take_waiting(&mut self.walk, alloc, self.waiting.as_slice())?;
         self.waiting.clear();
+        self.looked_for = 0;
         Ok(())
     }
 
@@ -235,7 +307,7 @@ impl Queue {
         requires { Walked self.walk }
         ensures { IfOk result (λ walk. Settled self walk) }
     {
-        let Queue { walk, waiting } = self;
+        let Queue { walk, waiting, .. } = self;
         let mut walk = walk;
         take_waiting(&mut walk, alloc, waiting.as_slice())?;
         Ok(walk)
@@ -259,7 +331,9 @@ fn late_bump(walk: &Walk, entry: &Entry) -> Option<u32>
 fn lack_room(tables: &Tables, waiting: &[Waiting]) -> bool {
     let mut glances = Glances::NONE;
     for next in waiting {
-        tables.glance(&next.entry, &mut glances);
+        if !next.is_put_off {
+            tables.glance(&next.entry, &mut glances);
+        }
     }
     tables.lacks_room(&glances)
 }
@@ -268,7 +342,9 @@ fn lack_room(tables: &Tables, waiting: &[Waiting]) -> bool {
 fn forecasts_of(tables: &Tables, waiting: &[Waiting], size: u64) -> Forecasts {
     let mut forecasts = Forecasts::NONE;
     for next in waiting {
-        tables.count(&next.entry, &mut forecasts);
+        if !next.is_put_off {
+            tables.count(&next.entry, &mut forecasts);
+        }
     }
     if let [first, .., last] = waiting {
         forecasts.go_on(
@@ -285,7 +361,18 @@ fn take_waiting(walk: &mut Walk, alloc: Global, waiting: &[Waiting]) -> Result<(
     ensures { OnOk result (TookAll waiting.now walk.old walk.new) }
 {
     for next in waiting {
-        walk.take(alloc, &next.entry, next.gate)?;
+        take_one(walk, alloc, next)?;
     }
     Ok(())
+}
+
+// Takes an entry, or puts it off.
+fn take_one(walk: &mut Walk, alloc: Global, next: &Waiting) -> Result<(), AllocError>
+    requires { Walked walk.old }
+    ensures { OnOk result (Took (next.now.entry ∷ []) next.now.gate walk.old walk.new) }
+{
+    match late_bump(walk, &next.entry) {
+        Some(number) if next.is_put_off => walk.put_off(number, next.gate),
+        _ => walk.take(alloc, &next.entry, next.gate),
+    }
 }

@@ -1,5 +1,5 @@
 //! What the coordinator keeps of its list, so that no look-up walks it.
-ghost use Rattle.std.specs.Prelude.{◌≡◌, ◌↔◌, ◌<◌, ◌+◌, ◌^◌, ◌-◌, ◌++◌, ◌∷◌, ◌&&◌, [], IfOk, OnOk, IsSome, IsTrue, Some, All, List, is_some, if◌then◌else◌};
+ghost use Rattle.std.specs.Prelude.{◌≡◌, ◌↔◌, ◌<◌, ◌+◌, ◌^◌, ◌-◌, ◌&&◌, [], IfOk, OnOk, IsSome, IsTrue, Some, All, List, is_some, if◌then◌else◌};
 ghost use Rattle.std.specs.List.{fold};
 ghost use Rattle.std.specs.HashMap.{get, IsUnique};
 ghost use Rattle.cw_types.specs.declared.ids.Tid.{Tid};
@@ -62,7 +62,7 @@ impl Tables {
     ghost use Rattle.cw_txn.specs.Committed.{committed_at};
     ghost use Rattle.cw_txn.specs.EpochRows.{epoch_at};
     ghost use Rattle.cw_txn.specs.PartRows.{history_at};
-    ghost use Rattle.cw_txn.specs.Tables.{entry_of, parts_in, Keeps, HasRows, KeepsRows, SameRows};
+    ghost use Rattle.cw_txn.specs.Tables.{entry_of, parts_in, Adds, AreHistories, Keeps, HasRows, KeepsRows, SameRows};
     ghost use Rattle.cw_types.specs.Same.{part_eq};
     ghost use Rattle.cw_txn.specs.Walk.{IsChainTest};
 
@@ -172,8 +172,8 @@ impl Tables {
     // way, so that each part is looked up once. An `Err` may leave a part of it.
     pub fn put(&mut self, entry: &Entry) -> Result<bool, AllocError>
         requires { (tid : Tid) → epoch_at self.old.epochs tid + 1 < 2 ^ 32 }
-        ensures kept { OnOk result ((entries : List Entry) → Keeps self.old entries → Keeps self.new (entries ++ entry.now ∷ [])) }
-        ensures chains { IfOk result (λ chains. (entries : List Entry) → Keeps self.old entries → IsChainTest entries entry.now chains) }
+        ensures adds { OnOk result (Adds entry.now self.old self.new) }
+        ensures chains { IfOk result (λ chains. (entries : List Entry) → AreHistories self.old.parts entries → IsChainTest entries entry.now chains) }
     {
         match entry {
             Entry::Bump(tid) => {
@@ -197,7 +197,7 @@ impl Tables {
     pub fn add(&mut self, entry: &Entry)
         requires rows { HasRows self.old entry.now }
         requires small { (tid : Tid) → epoch_at self.old.epochs tid + 1 < 2 ^ 32 }
-        ensures kept { (entries : List Entry) → Keeps self.old entries → Keeps self.new (entries ++ entry.now ∷ []) }
+        ensures adds { Adds entry.now self.old self.new }
         ensures rows { KeepsRows self.old self.new }
     {
         match entry {

@@ -273,6 +273,67 @@ fn bumps_of_very_many_producers_wait_and_are_all_counted(rt: HostRuntime) -> Res
     Ok(())
 }
 
+// The body of a commit of a producer: its epoch, its number, and where its span of a part of its own begins, which takes 5.
+fn own_commit_body(
+    alloc: Global,
+    producer: u32,
+    epoch: u64,
+    number: u64,
+    from: u64,
+) -> Result<Vec<u8>, AllocError> {
+    let mut body = Vec::new(alloc);
+    body.extend_from_slice(&[0, 0, 0, 1, 2, 3])?;
+    body.extend_from_slice(&producer.to_be_bytes())?;
+    body.extend_from_slice(&epoch.to_be_bytes())?;
+    body.extend_from_slice(&number.to_be_bytes())?;
+    body.extend_from_slice(&[0, 0, 0, 0, 0, 0, 0, 0, 0, 0, 0, 1, 1])?;
+    body.extend_from_slice(&producer.to_be_bytes())?;
+    body.extend_from_slice(&from.to_be_bytes())?;
+    body.extend_from_slice(&from.wrapping_add(5).to_be_bytes())?;
+    Ok(body)
+}
+
+#[test]
+fn commits_count_the_bumps_that_wait(rt: HostRuntime) -> Result<(), Fail> {
+    // A producer of 150,000 that were bumped once or one behind them, the epoch of its commit, and whether it is allowed;
+    // behind that it is bumped, and commits under the next epoch.
+    let table = [
+        (0, 1, true),
+        (149_999, 1, true),
+        (149_999, 0, false),
+        (149_999, 2, false),
+        (150_000, 0, true),
+        (150_000, 1, false),
+    ];
+    for (place, epoch, allowed) in table {
+        let mut replay = Replay::new(rt.alloc(), 10_000_000);
+        for group in 0..150 {
+            let body = bumps_body(rt.alloc(), group * 1000, 1000)?;
+            assert!(rt; replay.take_body(body.as_slice(), 16) == Ok(()));
+        }
+        let producer = spread(place);
+        let first = own_commit_body(rt.alloc(), producer, epoch, 150_000, 0)?;
+        assert!(rt; replay.take_body(first.as_slice(), 1000) == Ok(()));
+        let bump = bumps_body(rt.alloc(), place, 1)?;
+        assert!(rt; replay.take_body(bump.as_slice(), 2000) == Ok(()));
+        let second = own_commit_body(rt.alloc(), producer, epoch.wrapping_add(1), 150_002, 5)?;
+        assert!(rt; replay.take_body(second.as_slice(), 3000) == Ok(()));
+        match replay.into_coordinator() {
+            Ok(txn) => {
+                assert!(rt; allowed);
+                assert_eq!(rt; txn.length(), 150_003);
+                assert_eq!(rt; txn.epoch_of(&Tid::Raw(producer)), epoch.wrapping_add(1));
+                assert!(rt; txn.end_of(&PartKey::Raw(producer)) == Some(10));
+            }
+            Err(fault) => {
+                assert!(rt; !allowed);
+                assert!(rt; fault == ListFault::NotAllowed(1000));
+            }
+        }
+    }
+    Ok(())
+}
+
 // The body of a set of two sink parts to offset 3 under epoch 0, by the leader or else by task 0 of connector a.
 fn sinks_body(alloc: Global, lead: bool, parts: &[(u8, u8); 2]) -> Result<Vec<u8>, AllocError> {
     let mut body = Vec::new(alloc);

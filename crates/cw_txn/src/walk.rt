@@ -19,6 +19,9 @@ use std::alloc::{AllocError, Global};
 // So many bumps wait at most.
 const MOST_LATE: usize = 1 << 20;
 
+// So many looks at the bumps that wait take no longer than one of them will.
+const LOOKS_A_BUMP: usize = 32;
+
 // The entries so far and the gate of each, which are ghost data, and what was found in them: their number, the gate of
 // the first that isn't allowed and of the first that doesn't chain, and the tables as long as all are allowed. These lag
 // by bumps of scripts' producers that wait, so that rows which lie near one another are raised together.
@@ -34,6 +37,8 @@ pub struct Walk {
     // the log's bytes, and the gate up to which no bump waits; nothing but speed and memory depends on them
     pub size: u64,
     pub settled: u64,
+    // so many looks at bumps that wait were saved up
+    pub looks: usize,
 }
 
 impl Walk {
@@ -55,6 +60,7 @@ impl Walk {
             unchained: None,
             size,
             settled: 0,
+            looks: 0,
         }
     }
 
@@ -90,6 +96,7 @@ impl Walk {
             return Err(AllocError);
         }
         self.late.put(number)?;
+        self.looks = self.looks.saturating_add(LOOKS_A_BUMP);
         self.lengthen(&Entry::Bump(Tid::Raw(number)), gate);
         Ok(())
     }
@@ -117,23 +124,24 @@ impl Walk {
         }
         self.late.clear();
         self.settled = gate;
+        self.looks = 0;
         Ok(())
     }
 
-    // One entry more.
+    // One entry more. Its producer's bumps that wait are looked for where that costs little, else none waits any more.
     pub fn take(&mut self, alloc: Global, entry: &Entry, gate: u64) -> Result<(), AllocError>
         requires { Walked self.old }
         ensures { OnOk result (Took (entry.now ∷ []) gate self.old self.new) }
     {
-        self.settle(gate)?;
+        if !afford(&mut self.looks, &self.late, entry) {
+            self.settle(gate)?;
+        }
         self.take_next(alloc, entry, gate)
     }
 
-    // One entry more, where no bump waits. Behind one that isn't allowed nothing else is looked for: no later fault comes
-    // before it.
+    // One entry more. Behind one that isn't allowed nothing else is looked for: no later fault comes before it.
     fn take_next(&mut self, alloc: Global, entry: &Entry, gate: u64) -> Result<(), AllocError>
-        requires walked { Walked self.old }
-        requires none { (q : ℕ) → waits self.old.late q ≡ 0 }
+        requires { Walked self.old }
         ensures { OnOk result (Took (entry.now ∷ []) gate self.old self.new) }
     {
         if self.length >= MOST_ENTRIES {
@@ -143,7 +151,8 @@ impl Walk {
             self.lengthen(entry, gate);
             return Ok(());
         }
-        if !is_allowed(alloc, &self.tables, self.length as usize, entry)? {
+        let place = self.length as usize;
+        if !is_allowed(alloc, &self.tables, &self.late, place, entry)? {
             self.not_allowed = Some(gate);
             self.lengthen(entry, gate);
             return Ok(());
@@ -210,6 +219,33 @@ impl Walk {
         self.entries = self.entries.and(entry);
         self.gates = self.gates.and(&gate);
         self.length += 1;
+    }
+}
+
+// Whether enough looks were saved up for those that an entry takes, which are spent then. Nothing but speed depends on it.
+fn afford(looks: &mut usize, late: &Shelves, entry: &Entry) -> bool {
+    let taken = looks_for(late, entry);
+    match looks.checked_sub(taken) {
+        Some(left) => {
+            *looks = left;
+            true
+        }
+        None => false,
+    }
+}
+
+// How many bumps that wait are looked at for an entry.
+fn looks_for(late: &Shelves, entry: &Entry) -> usize {
+    match entry {
+        Entry::Commit { tag, .. } => looks_for_producer(late, &tag.tid),
+        _ => 0,
+    }
+}
+
+fn looks_for_producer(late: &Shelves, tid: &Tid) -> usize {
+    match tid {
+        Tid::Raw(number) => late.beside(*number).len(),
+        _ => 0,
     }
 }
 

@@ -1,6 +1,6 @@
 use Rattle.std.proofs.Common.{◌≡◌, ◌∙◌, ◌∷◌, [], ℕ, length, length-append, nat_eq, if◌then◌else◌, slice_set, sym, ap, arith, rules}
 use Rattle.cw_tables.specs.Shelves.{count_on, times, times_on}
-use Rattle.cw_tables.proofs.ShelfLemmas.{count_on_set, times_more, times_on_set}
+use Rattle.cw_tables.proofs.ShelfLemmas.{count_on_set, placed_put, placed_same, set_same, times_more, times_on_set}
 use Rattle.cw_tables.proofs.shelves.put_on.Goals as goal
 
 pub returns-in_err-push-clause-same : goal.returns-in_err-push-clause-same
@@ -32,3 +32,12 @@ pub returns-clause-count : goal.returns-clause-count
 returns-clause-count c =
     count_on_set c.args.shelves.now.items c.args.shelf 1 c.index_mut.result.now c.push.new.self c.requires (sym c.index_mut.ensures.value)
     (ap length c.in_ok-push.ensures.items ∙ length-append c.index_mut.result.now.items (c.args.number ∷ []))
+
+pub returns-clause-placed : goal.returns-clause-placed
+returns-clause-placed c own placed =
+    placed_put c.args.shelves.now.items c.args.shelf c.args.number c.index_mut.result.now c.push.new.self c.requires (sym c.index_mut.ensures.value) c.in_ok-push.ensures.items own placed
+
+pub returns-in_err-push-clause-placed : goal.returns-in_err-push-clause-placed
+returns-in_err-push-clause-placed c own placed =
+    placed_same c.args.shelves.now.items (slice_set c.args.shelves.now.items c.args.shelf c.push.new.self)
+    (set_same c.args.shelves.now.items c.args.shelf c.index_mut.result.now c.push.new.self c.requires (sym c.index_mut.ensures.value) c.in_err-push.ensures.items) placed

@@ -1,5 +1,6 @@
 use Rattle.std.proofs.Common.{ℕ, slice_index_or, arith}
-use Rattle.cw_txn.proofs.LateLemmas.{times_next, times_left}
+use Rattle.cw_txn.proofs.LateLemmas.{times_left}
+use Rattle.cw_tables.proofs.ShelfLemmas.{times_next}
 use Rattle.cw_txn.proofs.late.raise_each.Goals as goal
 
 pub raise_or_begin-requires : goal.raise_or_begin-requires

@@ -1,6 +1,6 @@
 use Rattle.std.proofs.Common.{arith}
 use Rattle.cw_tables.proofs.ShelfLemmas.{clear_next, clear_count}
-use Rattle.cw_tables.proofs.shelves.Shelves.clear.Goals as goal
+use Rattle.cw_tables.proofs.shelves.clear_each.Goals as goal
 
 pub loop-shelf-preserved : goal.loop-shelf-preserved
 loop-shelf-preserved c = (
