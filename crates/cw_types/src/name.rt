@@ -1,5 +1,5 @@
 //! Names of connectors, feeds, topics and groups.
-ghost use Rattle.std.specs.Prelude.{◌≡◌, ◌≢◌, None, Some, IfOk, IfErr, position, not, nat_eq, refl};
+ghost use Rattle.std.specs.Prelude.{◌≡◌, ◌≢◌, None, Some, IfOk, IfErr, take, position, not, nat_eq, refl};
 ghost use Rattle.std.specs.Ordering.{nat_cmp};
 ghost use Rattle.std.specs.Cmp.Lexicographic.{pointwise, slice_cmp, nat_list_eq_equiv, nat_list_cmp_total, texts_ties, texts_po};
 ghost use Rattle.std.specs.Cmp.{partial_equiv_from_equiv};
@@ -16,18 +16,70 @@ use std::marker::Model;
 /// A name: 1 to 128 bytes, each from `!` (0x21) to `~` (0x7E). Clauses see its bytes.
 #[derive(Debug, Drop)]
 pub struct Name {
-    bytes: Vec<u8>,
+    held: Held,
 }
 
 impl Model for Name {
     ghost use Rattle.std.specs.Prelude.{List, ℕ};
     ghost use Rattle.cw_types.specs.Name.{IsName};
+    ghost use Rattle.cw_types.specs.Held.{held_bytes};
 
     ghost Value = { List ℕ };
 
-    ghost view = { λ a. a.bytes.items };
+    ghost view = { λ a. held_bytes a.held };
 
-    ghost invariant = { λ a. IsName a.bytes.items };
+    ghost invariant = { λ a. IsName (held_bytes a.held) };
+}
+
+// So many bytes lie in the value itself, which is then as large as a `Vec`.
+const SHORT: usize = 19;
+
+// Where the bytes of a name are. A short one needs no memory of its own, so that no look-up waits for it.
+#[derive(Debug, Drop)]
+pub(crate) enum Held {
+    Short { length: u8, bytes: [u8; SHORT] },
+    Long(Box<Vec<u8>>),
+}
+
+impl Held {
+    ghost use Rattle.std.specs.Prelude.{◌<◌, length};
+    ghost use Rattle.cw_types.specs.Held.{held_bytes};
+
+    fn new(alloc: Global, text: &[u8]) -> Result<Held, AllocError>
+        requires { length text.now < 256 }
+        ensures { IfOk result (λ held. held_bytes held ≡ text.now) }
+    {
+        if text.len() > SHORT {
+            return Ok(Held::Long(Box::new(alloc, text.to_vec(alloc)?)?));
+        }
+        let mut bytes = [0; SHORT];
+        bytes[..text.len()].copy_from_slice(text);
+        Ok(Held::Short {
+            length: text.len() as u8,
+            bytes,
+        })
+    }
+
+    fn as_bytes(&self) -> &[u8]
+        ensures { result.now ≡ held_bytes self.now }
+    {
+        match self {
+            Held::Short { length, bytes } => first_of(bytes, *length as usize),
+            Held::Long(bytes) => bytes.as_slice(),
+        }
+    }
+
+    fn copy(&self) -> Result<Held, AllocError>
+        ensures { IfOk result (λ held. held_bytes held ≡ held_bytes self.now) }
+    {
+        match self {
+            Held::Short { length, bytes } => Ok(Held::Short {
+                length: *length,
+                bytes: *bytes,
+            }),
+            Held::Long(bytes) => Ok(Held::Long(bytes.clone()?)),
+        }
+    }
 }
 
 /// Why bytes are no name, the first that holds in this order.
@@ -66,6 +118,13 @@ fn bad_byte(text: &[u8]) -> Option<usize>
     text.iter().position(|byte| !is_name_byte(*byte))
 }
 
+// The first so many bytes, as far as there are so many.
+fn first_of(bytes: &[u8], count: usize) -> &[u8]
+    ensures { result.now ≡ take count bytes.now }
+{
+    &bytes[..count.min(bytes.len())]
+}
+
 impl Name {
     /// Reads a name from its bytes, or says the first fault that they have.
     pub fn read(alloc: Global, text: &[u8]) -> Result<Name, NameFault>
@@ -82,7 +141,7 @@ impl Name {
             return Err(NameFault::BadByte(at));
         }
         Ok(Name {
-            bytes: text.to_vec(alloc)?,
+            held: Held::new(alloc, text)?,
         })
     }
 
@@ -91,7 +150,7 @@ impl Name {
         ensures bytes { result.now ≡ self.now }
         ensures name { IsName self.now }
     {
-        &self.bytes
+        self.held.as_bytes()
     }
 
     /// A copy.
@@ -99,7 +158,7 @@ impl Name {
         ensures { IfOk result (λ name. name ≡ self.now) }
     {
         Ok(Name {
-            bytes: self.bytes.clone()?,
+            held: self.held.copy()?,
         })
     }
 }
@@ -124,7 +183,7 @@ impl Hash for Name {
     ghost respects_eq = { Prim.search (hashing, rules) };
 
     fn hash<H: Hasher>(&self, state: &mut H) {
-        self.bytes.hash(state);
+        self.as_bytes().hash(state);
     }
 }
 
@@ -162,8 +221,11 @@ mod tests {
         let long = [b'a'; 129];
         let longest = Name::read(rt.alloc(), &long[..128])?;
         assert_eq!(rt; longest.as_bytes().len(), 128);
-        let name = Name::read(rt.alloc(), b"a-1")?;
-        assert!(rt; name.copy()? == name);
+        for text in [b"a-1".as_slice(), &long[..19], &long[..20]] {
+            let name = Name::read(rt.alloc(), text)?;
+            assert_eq!(rt; name.as_bytes(), text);
+            assert!(rt; name.copy()? == name);
+        }
         let table: [(&[u8], NameFault); 5] = [
             (b"", NameFault::Empty),
             (&long, NameFault::TooLong),
