@@ -1,7 +1,8 @@
 //! Reading one field behind the other.
-ghost use Rattle.std.specs.Prelude.{◌≡◌};
+ghost use Rattle.std.specs.Prelude.{◌≡◌, ◌++◌, ◌∷◌, [], Ok, IfOk, IfErr, OnErr};
+ghost use Rattle.cw_types.specs.declared.ids.Span.{Span};
 ghost use Rattle.cw_bytes.specs.Input.{unread};
-ghost use Rattle.cw_bytes.specs.Reading.{Gives, cut_at, text_at, name_at, task_at, raw_id_at, tid_at, tag_at, flag_at, mark_at, raw_part_at, file_at, seq_at, sink_at, part_at, span_at, some_text_at, value_at, record_at, many_at, records_at};
+ghost use Rattle.cw_bytes.specs.Reading.{Fails, Gives, cut_at, text_at, name_at, task_at, raw_id_at, tid_at, tag_at, flag_at, mark_at, raw_part_at, file_at, seq_at, sink_at, part_at, span_at, some_text_at, value_at, record_at, many_at, records_at};
 
 use crate::applied::Applied;
 use crate::fault::FieldFault;
@@ -45,8 +46,9 @@ fn name_of(alloc: Global, from: Input<'_>) -> Result<(Name, Input<'_>), FieldFau
     }
 }
 
+// Out of line, as other fields with names are, so that those of scripts are read in place.
 #[tactic(auto, unfolding(crate::specs::Reading::task_at))]
-#[inline]
+#[inline(never)]
 fn task_of(alloc: Global, from: Input<'_>) -> Result<(Tid, Input<'_>), FieldFault>
     ensures { Gives (λ x. (x.0, unread x.1)) result (task_at (unread from.entry)) }
 {
@@ -56,7 +58,7 @@ fn task_of(alloc: Global, from: Input<'_>) -> Result<(Tid, Input<'_>), FieldFaul
 }
 
 #[tactic(auto, unfolding(crate::specs::Reading::raw_id_at))]
-#[inline]
+#[inline(always)]
 fn raw_id_of(from: Input<'_>) -> Result<(Tid, Input<'_>), FieldFault>
     ensures { Gives (λ x. (x.0, unread x.1)) result (raw_id_at (unread from.entry)) }
 {
@@ -65,7 +67,7 @@ fn raw_id_of(from: Input<'_>) -> Result<(Tid, Input<'_>), FieldFault>
 }
 
 #[tactic(auto, unfolding(crate::specs::Reading::tid_at))]
-#[inline]
+#[inline(always)]
 pub fn tid_of(alloc: Global, from: Input<'_>) -> Result<(Tid, Input<'_>), FieldFault>
     ensures { Gives (λ x. (x.0, unread x.1)) result (tid_at (unread from.entry)) }
 {
@@ -116,7 +118,7 @@ pub fn mark_of(alloc: Global, from: Input<'_>) -> Result<(Mark, Input<'_>), Fiel
 }
 
 #[tactic(auto, unfolding(crate::specs::Reading::raw_part_at))]
-#[inline]
+#[inline(always)]
 fn raw_part_of(from: Input<'_>) -> Result<(PartKey, Input<'_>), FieldFault>
     ensures { Gives (λ x. (x.0, unread x.1)) result (raw_part_at (unread from.entry)) }
 {
@@ -125,6 +127,7 @@ fn raw_part_of(from: Input<'_>) -> Result<(PartKey, Input<'_>), FieldFault>
 }
 
 #[tactic(auto, unfolding(crate::specs::Reading::file_at))]
+#[inline(never)]
 fn file_of(alloc: Global, from: Input<'_>) -> Result<(PartKey, Input<'_>), FieldFault>
     ensures { Gives (λ x. (x.0, unread x.1)) result (file_at (unread from.entry)) }
 {
@@ -134,6 +137,7 @@ fn file_of(alloc: Global, from: Input<'_>) -> Result<(PartKey, Input<'_>), Field
 }
 
 #[tactic(auto, unfolding(crate::specs::Reading::seq_at))]
+#[inline(never)]
 fn seq_of(alloc: Global, from: Input<'_>) -> Result<(PartKey, Input<'_>), FieldFault>
     ensures { Gives (λ x. (x.0, unread x.1)) result (seq_at (unread from.entry)) }
 {
@@ -143,6 +147,7 @@ fn seq_of(alloc: Global, from: Input<'_>) -> Result<(PartKey, Input<'_>), FieldF
 }
 
 #[tactic(auto, unfolding(crate::specs::Reading::sink_at))]
+#[inline(never)]
 fn sink_of(alloc: Global, from: Input<'_>) -> Result<(PartKey, Input<'_>), FieldFault>
     ensures { Gives (λ x. (x.0, unread x.1)) result (sink_at (unread from.entry)) }
 {
@@ -152,7 +157,7 @@ fn sink_of(alloc: Global, from: Input<'_>) -> Result<(PartKey, Input<'_>), Field
 }
 
 #[tactic(auto, unfolding(crate::specs::Reading::part_at))]
-#[inline]
+#[inline(always)]
 pub fn part_of(alloc: Global, from: Input<'_>) -> Result<(PartKey, Input<'_>), FieldFault>
     ensures { Gives (λ x. (x.0, unread x.1)) result (part_at (unread from.entry)) }
 {
@@ -167,7 +172,7 @@ pub fn part_of(alloc: Global, from: Input<'_>) -> Result<(PartKey, Input<'_>), F
 }
 
 #[tactic(auto, unfolding(crate::specs::Reading::span_at))]
-#[inline]
+#[inline(always)]
 pub fn span_of(alloc: Global, from: Input<'_>) -> Result<(Span, Input<'_>), FieldFault>
     ensures { Gives (λ x. (x.0, unread x.1)) result (span_at (unread from.entry)) }
 {
@@ -175,6 +180,39 @@ pub fn span_of(alloc: Global, from: Input<'_>) -> Result<(Span, Input<'_>), Fiel
     let (from, rest) = u64_of(rest)?;
     let (to, rest) = u64_of(rest)?;
     Ok((Span { part, from, to }, rest))
+}
+
+// A span more behind others. One of a script's part, whose bytes are numbers, is made where it stays.
+#[tactic(auto, unfolding(crate::specs::Reading::span_at, crate::specs::Reading::part_at, crate::specs::Reading::raw_part_at))]
+#[inline(always)]
+pub fn span_onto<'a>(
+    alloc: Global,
+    from: Input<'a>,
+    spans: &mut Vec<Span>,
+) -> Result<Input<'a>, FieldFault>
+    ensures put { IfOk result (λ rest. (span : Span) × (span_at (unread from.entry) ≡ Ok (span, unread rest)) × (spans.new.items ≡ spans.old.items ++ span ∷ [])) }
+    ensures same { OnErr result (spans.new.items ≡ spans.old.items) }
+    ensures fault { IfErr result (λ fault. Fails fault (span_at (unread from.entry))) }
+{
+    match from.rest {
+        [1, rest @ ..] => {
+            let place = from.place + 1;
+            let (number, rest) = u32_of(Input { place, rest })?;
+            let (start, rest) = u64_of(rest)?;
+            let (end, rest) = u64_of(rest)?;
+            spans.push(Span {
+                part: PartKey::Raw(number),
+                from: start,
+                to: end,
+            })?;
+            Ok(rest)
+        }
+        _ => {
+            let (span, rest) = span_of(alloc, from)?;
+            spans.push(span)?;
+            Ok(rest)
+        }
+    }
 }
 
 #[tactic(auto, unfolding(crate::specs::Reading::some_text_at))]

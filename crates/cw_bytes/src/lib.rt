@@ -23,7 +23,7 @@ pub use body::{BodyFault, read_record_body, write_record_body};
 pub use fault::FieldFault;
 pub use mark::Mark;
 pub use reader::{
-    Reader, read_mark, read_part, read_records, read_span, read_tag, read_tid,
+    Reader, read_mark, read_part, read_records, read_span, read_span_onto, read_tag, read_tid,
     spelled_fields_are_read,
 };
 pub use writer::Writer;

@@ -1,5 +1,5 @@
 //! The reader.
-ghost use Rattle.std.specs.Prelude.{◌≡◌, ◌==◌, ◌<◌, ◌^◌, ℕ, List, [], ◌∷◌, length, IfOk, OnErr};
+ghost use Rattle.std.specs.Prelude.{◌≡◌, ◌==◌, ◌<◌, ◌^◌, ℕ, List, [], ◌∷◌, ◌++◌, length, Ok, IfOk, IfErr, OnOk, OnErr};
 ghost use Rattle.cw_types.specs.declared.ids.Tid.{Tid};
 ghost use Rattle.cw_types.specs.declared.ids.Tag.{Tag};
 ghost use Rattle.cw_types.specs.declared.ids.PartKey.{PartKey};
@@ -9,11 +9,11 @@ ghost use Rattle.cw_bytes.specs.declared.mark.Mark.{Mark};
 ghost use Rattle.std.specs.Int.{w32, w64};
 ghost use Rattle.cw_bytes.specs.Unread.{Unread, Takes, AreBytes};
 ghost use Rattle.cw_bytes.specs.Spelling.{word, long, text, tid_bytes, tag_bytes, mark_bytes, part_bytes, span_bytes, records_bytes, IsText, IsTid, IsTag, IsMark, IsPart, IsSpan, AreRecords};
-ghost use Rattle.cw_bytes.specs.Reading.{Gives, byte_at, number_at, text_at, tid_at, tag_at, mark_at, part_at, span_at, records_at};
+ghost use Rattle.cw_bytes.specs.Reading.{Fails, Gives, byte_at, number_at, text_at, tid_at, tag_at, mark_at, part_at, span_at, records_at};
 
 use crate::applied::Applied;
 use crate::fault::FieldFault;
-use crate::fields::{mark_of, part_of, records_of, span_of, tag_of, text_of, tid_of};
+use crate::fields::{mark_of, part_of, records_of, span_of, span_onto, tag_of, text_of, tid_of};
 use crate::input::Input;
 use crate::mark::Mark;
 use crate::numbers::{u8_of, u32_of, u64_of};
@@ -172,6 +172,21 @@ pub fn read_span(alloc: Global, from: &mut Reader<'_>) -> Result<Span, FieldFaul
     let (span, rest) = span_of(alloc, from.input)?;
     from.input = rest;
     Ok(span)
+}
+
+/// Reads a span, and puts it behind others.
+#[inline(always)]
+pub fn read_span_onto(
+    alloc: Global,
+    from: &mut Reader<'_>,
+    spans: &mut Vec<Span>,
+) -> Result<(), FieldFault>
+    ensures put { OnOk result ((span : Span) × (span_at from.old ≡ Ok (span, from.new)) × (spans.new.items ≡ spans.old.items ++ span ∷ [])) }
+    ensures as_before { OnErr result ((from.new ≡ from.old) × (spans.new.items ≡ spans.old.items)) }
+    ensures fault { IfErr result (λ fault. Fails fault (span_at from.old)) }
+{
+    from.input = span_onto(alloc, from.input, spans)?;
+    Ok(())
 }
 
 /// Reads a list of records.

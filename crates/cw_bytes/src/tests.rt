@@ -1,8 +1,8 @@
 //! Fields against bytes that come from an independent model.
 use crate::{
     BodyFault, FieldFault, Mark, Reader, Writer, read_mark, read_part, read_record_body,
-    read_records, read_span, read_tag, read_tid, write_mark, write_part, write_record_body,
-    write_records, write_span, write_tag, write_tid,
+    read_records, read_span, read_span_onto, read_tag, read_tid, write_mark, write_part,
+    write_record_body, write_records, write_span, write_tag, write_tid,
 };
 use cw_types::{Epoch, Name, PartKey, Span, Tag, TaskId, Tid};
 use std::test::Fail;
@@ -93,6 +93,42 @@ fn body_that_is_cut_anywhere_ends_too_early(rt: HostRuntime) -> Result<(), Fail>
     let span = read_span(rt.alloc(), &mut from).ok().ok_or("a span")?;
     assert!(rt; tag.number == 3 && span.to == 5);
     assert!(rt; from.is_empty());
+    Ok(())
+}
+
+#[test]
+fn spans_are_read_behind_others(rt: HostRuntime) -> Result<(), Fail> {
+    let mut into = Writer::new(rt.alloc());
+    let named = PartKey::Seq {
+        connector: Name::read(rt.alloc(), b"a")?,
+        index: 1,
+    };
+    for part in [PartKey::Raw(7), named, PartKey::Raw(8)] {
+        write_span(
+            &mut into,
+            &Span {
+                part,
+                from: 1,
+                to: 2,
+            },
+        )?;
+    }
+    let bytes = into.into_bytes();
+    let mut from = Reader::new(bytes.as_slice());
+    let mut spans = Vec::new(rt.alloc());
+    for count in 1..4 {
+        assert!(rt; read_span_onto(rt.alloc(), &mut from, &mut spans).is_ok());
+        assert_eq!(rt; spans.len(), count);
+    }
+    match spans.as_slice() {
+        [first, _, last] => {
+            assert!(rt; first.part == PartKey::Raw(7) && first.from == 1);
+            assert!(rt; last.part == PartKey::Raw(8) && last.to == 2);
+        }
+        _ => assert!(rt; false, "three spans are read"),
+    }
+    assert!(rt; read_span_onto(rt.alloc(), &mut from, &mut spans).is_err());
+    assert_eq!(rt; spans.len(), 3);
     Ok(())
 }
 

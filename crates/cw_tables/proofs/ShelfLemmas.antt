@@ -25,10 +25,33 @@ times_take q [] (suc i) = omega arith
 times_take q (number ∷ numbers) zero = omega arith
 times_take q (number ∷ numbers) (suc i) = omega (arith, times_take q numbers i)
 
+-- a number that comes was not counted yet
+pub times_left : (numbers : List ℕ) (i d : ℕ) → i < length numbers → times (slice_index_or numbers i d) (take i numbers) + 1 ≤ times (slice_index_or numbers i d) numbers
+times_left numbers i d low =
+    let number : ℕ = slice_index_or numbers i d in
+    let own : cond {A = ℕ} (nat_eq number number) 1 0 ≡ 1 = grind (arith, nat_tests) in
+    omega (arith, times_next number numbers i d low, times_take number numbers (i + 1), own)
+
 -- one shelf more
 pub times_on_more : (q : ℕ) (shelves : List (Vec ℕ)) (shelf : Vec ℕ) → times_on q (shelves ++ shelf ∷ []) ≡ times_on q shelves + times q shelf.items
 times_on_more q [] shelf = omega arith
 times_on_more q (first ∷ shelves) shelf = omega (arith, times_on_more q shelves shelf)
+
+-- the next shelf
+suc_shelves : (q : ℕ) (shelves : List (Vec ℕ)) (i : ℕ) (d : Vec ℕ) → i < length shelves → times_on q (take (suc i) shelves) ≡ times_on q (take i shelves) + times q (slice_index_or shelves i d).items
+suc_shelves q [] i d low = absurd (omega (arith, low))
+suc_shelves q (shelf ∷ shelves) zero d low = omega arith
+suc_shelves q (shelf ∷ shelves) (suc i) d low = omega (arith, suc_shelves q shelves i d (omega arith))
+
+pub shelves_next : (q : ℕ) (shelves : List (Vec ℕ)) (i : ℕ) (d : Vec ℕ) → i < length shelves → times_on q (take (i + 1) shelves) ≡ times_on q (take i shelves) + times q (slice_index_or shelves i d).items
+shelves_next q shelves i d low = let one : i + 1 ≡ suc i = omega arith in ap (λ (n : ℕ). times_on q (take n shelves)) one ∙ suc_shelves q shelves i d low
+
+-- no more than on all shelves
+pub shelves_take : (q : ℕ) (shelves : List (Vec ℕ)) (i : ℕ) → times_on q (take i shelves) ≤ times_on q shelves
+shelves_take q [] zero = omega arith
+shelves_take q [] (suc i) = omega arith
+shelves_take q (shelf ∷ shelves) zero = omega arith
+shelves_take q (shelf ∷ shelves) (suc i) = omega (arith, shelves_take q shelves i)
 
 -- a shelf that has others of a number
 pub times_on_set : (q : ℕ) (shelves : List (Vec ℕ)) (at more : ℕ) (old new : Vec ℕ) → at < length shelves → slice_index_or shelves at old ≡ old → times q new.items ≡ times q old.items + more

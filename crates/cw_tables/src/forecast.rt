@@ -15,9 +15,9 @@ impl Glance {
         free: 0,
     };
 
-    /// One number more.
+    // One number more.
     #[inline]
-    pub fn note(&mut self, is_free: bool) {
+    pub(crate) fn note(&mut self, is_free: bool) {
         self.numbers = self.numbers.saturating_add(1);
         self.free = self.free.saturating_add(is_free as usize);
     }
@@ -34,10 +34,11 @@ impl Glance {
 /// How many rows are new of some numbers that come next, and what that lets expect of the numbers behind them.
 #[derive(Clone, Copy, Debug, Drop)]
 pub struct Forecast {
-    // numbers that have no row yet, and numbers that have one
+    // of a sample, numbers that have no row yet, and numbers that have one
     new: usize,
     known: usize,
-    // new rows that may come behind them
+    // new rows that may come now, and behind them
+    now: usize,
     behind: usize,
 }
 
@@ -46,36 +47,38 @@ impl Forecast {
     pub const NONE: Forecast = Forecast {
         new: 0,
         known: 0,
+        now: 0,
         behind: 0,
     };
 
-    /// Counts one number more.
-    pub fn count(&mut self, is_new: bool) {
+    // Counts one number more, which comes now.
+    pub(crate) fn count(&mut self, is_new: bool) {
         self.new = self.new.saturating_add(is_new as usize);
         self.known = self.known.saturating_add(!is_new as usize);
+        self.now = self.new;
     }
 
-    /// Takes the numbers that were counted for a sample: so many of so many. All of these come next.
+    /// Takes the numbers that were counted for a sample: so many of so many. All of these come now.
     pub fn stand_for(&mut self, sample: usize, numbers: usize) {
-        self.new = scaled(self.new, numbers, sample);
-        self.known = scaled(self.known, numbers, sample);
+        self.now = scaled(self.new, numbers, sample);
     }
 
     /// Expects as many new rows behind these numbers in proportion: these took so many bytes, and so many are left.
     pub fn go_on(&mut self, taken: u64, left: u64) {
-        self.behind = scaled(self.new, left as usize, taken as usize);
+        self.behind = scaled(self.now, left as usize, taken as usize);
     }
 
-    // How many rows the numbers need.
+    // How many rows the numbers need that come now.
     pub(crate) fn new_rows(&self) -> usize {
-        self.new
+        self.now
     }
 
     // How many rows more a table of so many rows may need. Where the numbers are drawn from a set, as large a share of
-    // those that come is known as the table has of the set, so that it needs no more than the rest of the set.
+    // those that come is known as the table has of the set, so that it needs no more than the rest of the set. A small
+    // sample expects little of it where none is known.
     pub(crate) fn rows_behind(&self, rows: usize) -> usize {
         let rest_of_set = (rows / self.known.saturating_add(1)).saturating_mul(self.new);
-        rest_of_set.min(self.behind).max(self.new)
+        rest_of_set.min(self.behind).max(self.now)
     }
 }
 

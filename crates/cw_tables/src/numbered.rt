@@ -1,5 +1,5 @@
 //! A table by numbers, most of which are small.
-ghost use Rattle.std.specs.Prelude.{◌≡◌, ◌<◌, ℕ, nat_eq, nat_lt, true, length, OnOk, OnErr, IsSome, Some, None, unwrap_or, if◌then◌else◌};
+ghost use Rattle.std.specs.Prelude.{◌≡◌, ◌<◌, ◌≤◌, ◌^◌, ℕ, nat_eq, nat_lt, true, false, length, OnOk, OnErr, IsSome, Some, None, unwrap_or, if◌then◌else◌};
 
 use crate::forecast::{Forecast, Glance};
 use crate::sparse::Sparse;
@@ -22,7 +22,7 @@ pub struct Numbered<V> {
 }
 
 impl<V: Copy + Drop> Numbered<V> {
-    ghost use Rattle.cw_tables.specs.Numbered.{numbered_row};
+    ghost use Rattle.cw_tables.specs.Numbered.{IsFoundAt, numbered_row};
 
     /// With no row.
     pub fn new(alloc: Global) -> Numbered<V>
@@ -63,6 +63,40 @@ impl<V: Copy + Drop> Numbered<V> {
         self.high.get_mut(number)
     }
 
+    /// Where a look-up of a number ends, and its row.
+    #[inline]
+    pub fn find(&self, number: u32) -> (usize, Option<V>)
+        ensures place { IsFoundAt self.now number result.0 }
+        ensures row { result.1 ≡ numbered_row self.now number }
+    {
+        if number < self.limit {
+            return (number as usize, self.low.get(number as usize).copied());
+        }
+        self.high.find(number)
+    }
+
+    /// Sets the value of a number where a look-up of it ended, in its row or in a new one, and may make others, each of
+    /// which reads as a missing one.
+    #[inline]
+    pub fn set_at(
+        &mut self,
+        place: usize,
+        number: u32,
+        value: V,
+        missing: V,
+    ) -> Result<(), AllocError>
+        requires { IsFoundAt self.old number place }
+        ensures put { OnOk result ((q : ℕ) → unwrap_or (numbered_row self.new q) missing ≡ (if nat_eq number q then value else unwrap_or (numbered_row self.old q) missing)) }
+        ensures same { OnErr result ((q : ℕ) → unwrap_or (numbered_row self.new q) missing ≡ unwrap_or (numbered_row self.old q) missing) }
+    {
+        if self.is_listed(number) {
+            self.lengthen(number, missing)?;
+            self.low[number as usize] = value;
+            return Ok(());
+        }
+        self.high.set_at(place, number, value)
+    }
+
     /// Sets a new value in a row that is there.
     #[inline]
     pub fn set(&mut self, number: u32, value: V)
@@ -86,24 +120,12 @@ impl<V: Copy + Drop> Numbered<V> {
         self.high.make(number, missing)
     }
 
-    /// Sets the value of a number, which should have no row yet, in a new row, and may make others, each of which reads
-    /// as a missing one.
-    pub fn insert(&mut self, number: u32, value: V, missing: V) -> Result<(), AllocError>
-        ensures put { OnOk result ((q : ℕ) → unwrap_or (numbered_row self.new q) missing ≡ (if nat_eq number q then value else unwrap_or (numbered_row self.old q) missing)) }
-        ensures same { OnErr result ((q : ℕ) → unwrap_or (numbered_row self.new q) missing ≡ unwrap_or (numbered_row self.old q) missing) }
-    {
-        if self.is_listed(number) {
-            self.lengthen(number, missing)?;
-            self.low[number as usize] = value;
-            return Ok(());
-        }
-        self.high.insert(number, value)
-    }
-
     // Whether a number is a place of the list, which may raise the limit. The table reads as before.
     fn is_listed(&mut self, number: u32) -> bool
         ensures same { (q : ℕ) → numbered_row self.new q ≡ numbered_row self.old q }
         ensures listed { result ≡ nat_lt number self.new.limit }
+        ensures high { self.new.high ≡ self.old.high }
+        ensures limit { self.old.limit ≤ self.new.limit }
     {
         if number >= self.limit {
             self.raise_limit();
@@ -128,7 +150,9 @@ impl<V: Copy + Drop> Numbered<V> {
     // Doubles the limit where the list has reached it with a quarter of its places in use, so that it takes memory by
     // its rows alone, and no greater number has a row. The table reads as before.
     fn raise_limit(&mut self)
-        ensures { (q : ℕ) → numbered_row self.new q ≡ numbered_row self.old q }
+        ensures same { (q : ℕ) → numbered_row self.new q ≡ numbered_row self.old q }
+        ensures high { self.new.high ≡ self.old.high }
+        ensures limit { self.old.limit ≤ self.new.limit }
     {
         let is_in_use = self.low.len() == self.limit as usize && self.lengthened >= self.limit / 4;
         if is_in_use && self.high.is_empty() && self.limit < 1 << 31 {
@@ -136,16 +160,30 @@ impl<V: Copy + Drop> Numbered<V> {
         }
     }
 
-    /// Whether the place of a number is free, so that it has no row, told by one look. A processor waits for the memory of
-    /// many such looks at once, and finds it near when the rows are changed.
+    // Whether the place of a number is free, so that it has no row, told by one look.
     #[inline]
-    pub fn is_free(&self, number: u32) -> bool
+    fn is_free(&self, number: u32) -> bool
         ensures { result ≡ true → numbered_row self.now number ≡ None }
     {
         if number < self.limit {
             return number as usize >= self.low.len();
         }
         self.high.is_free(number)
+    }
+
+    /// Looks at the places of these numbers, one close behind the other. A processor waits for the memory of many at once,
+    /// and finds it near when the rows are changed. Nothing but speed depends on it.
+    pub fn glance(&self, numbers: &[u32], glance: &mut Glance) {
+        for number in numbers {
+            glance.note(self.is_free(*number));
+        }
+    }
+
+    /// Counts which of these numbers have no row yet. Nothing but speed and memory depends on it.
+    pub fn count(&self, numbers: &[u32], forecast: &mut Forecast) {
+        for number in numbers {
+            forecast.count(self.get(*number).is_none());
+        }
     }
 
     /// Whether a number's row is one of a large table, which a processor finds far off in memory. Nothing but speed depends

@@ -79,7 +79,18 @@ impl<V: Copy + Drop> Sparse<V> {
     pub fn get(&self, number: u32) -> Option<V>
         ensures { result ≡ listed self.now.slots.items number }
     {
-        value_at(&self.slots, self.place_of(number))
+        self.find(number).1
+    }
+
+    /// The place where a look-up of a number ends, and its row.
+    #[inline]
+    pub fn find(&self, number: u32) -> (usize, Option<V>)
+        ensures place { IsPlaceOf self.now.slots.items self.now.shift number result.0 }
+        ensures within { result.0 < 2 ^ 63 }
+        ensures row { result.1 ≡ listed self.now.slots.items number }
+    {
+        let at = self.place_of(number);
+        (at, value_at(&self.slots, at))
     }
 
     // Where a look-up of a number ends.
@@ -129,6 +140,25 @@ impl<V: Copy + Drop> Sparse<V> {
             self.grow(0)?;
         }
         self.put(number, value)?;
+        self.rows = self.rows.saturating_add(1);
+        Ok(())
+    }
+
+    /// Sets the row of a number at the place where a look-up of it ends, or makes it.
+    #[inline]
+    pub fn set_at(&mut self, at: usize, number: u32, value: V) -> Result<(), AllocError>
+        requires place { IsPlaceOf self.old.slots.items self.old.shift number at }
+        requires within { at < 2 ^ 63 }
+        ensures put { OnOk result ((q : ℕ) → listed self.new.slots.items q ≡ (if nat_eq number q then Some value else listed self.old.slots.items q)) }
+        ensures same { OnErr result ((q : ℕ) → listed self.new.slots.items q ≡ listed self.old.slots.items q) }
+    {
+        if value_at(&self.slots, at).is_some() {
+            return self.put_at(at, number, value);
+        }
+        if self.rows >= most_rows(self.shift) {
+            return self.insert(number, value);
+        }
+        self.put_at(at, number, value)?;
         self.rows = self.rows.saturating_add(1);
         Ok(())
     }
@@ -211,7 +241,17 @@ impl<V: Copy + Drop> Sparse<V> {
         ensures put { OnOk result ((q : ℕ) → listed self.new.slots.items q ≡ (if nat_eq number q then Some value else listed self.old.slots.items q)) }
         ensures same { OnErr result ((q : ℕ) → listed self.new.slots.items q ≡ listed self.old.slots.items q) }
     {
-        let at = self.place_of(number);
+        self.put_at(self.place_of(number), number, value)
+    }
+
+    // The same at the place where a look-up of the number ends.
+    #[inline]
+    fn put_at(&mut self, at: usize, number: u32, value: V) -> Result<(), AllocError>
+        requires place { IsPlaceOf self.old.slots.items self.old.shift number at }
+        requires within { at < 2 ^ 63 }
+        ensures put { OnOk result ((q : ℕ) → listed self.new.slots.items q ≡ (if nat_eq number q then Some value else listed self.old.slots.items q)) }
+        ensures same { OnErr result ((q : ℕ) → listed self.new.slots.items q ≡ listed self.old.slots.items q) }
+    {
         reach(&mut self.slots, at)?;
         self.slots[at] = Slot::Row { number, value };
         Ok(())

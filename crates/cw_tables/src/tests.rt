@@ -54,7 +54,9 @@ fn small_and_great_numbers_have_rows_of_one_table(rt: HostRuntime) -> Result<(),
         assert_eq!(rt; table.get(number), Some(number as u64));
     }
     for number in [4, 1_048_574, 1_048_577, 1 << 31] {
-        table.insert(number, number as u64, 3)?;
+        let (place, row) = table.find(number);
+        assert_eq!(rt; row.unwrap_or(3), 3);
+        table.set_at(place, number, number as u64, 3)?;
         assert_eq!(rt; table.get(number), Some(number as u64));
     }
     assert_eq!(rt; table.get(5), Some(5));
@@ -85,17 +87,17 @@ fn great_numbers_keep_their_rows_while_the_table_grows(rt: HostRuntime) -> Resul
         table.set(number, number as u64);
     }
     assert_eq!(rt; table.get(u32::MAX), Some(u32::MAX as u64));
-    let mut forecast = Forecast::NONE;
-    for place in 0..5000 {
-        forecast.count(place % 2 == 0);
+    let mut numbers = Vec::new(rt.alloc());
+    for place in 2000..7000 {
+        numbers.push(great(place))?;
     }
+    let mut forecast = Forecast::NONE;
+    table.count(&numbers, &mut forecast);
     forecast.stand_for(5000, 10_000);
     forecast.go_on(5000, 50_000);
     table.make_room(&forecast)?;
-    assert!(rt; table.is_free(5));
-    assert_eq!(rt; table.is_free(u32::MAX), false);
     let mut glance = Glance::NONE;
-    glance.note(true);
+    table.glance(&numbers, &mut glance);
     assert_eq!(rt; table.lacks_room(&glance), false);
     for place in 0..4000 {
         let number = great(place);

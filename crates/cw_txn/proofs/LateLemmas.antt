@@ -1,9 +1,6 @@
 -- Producers whose bumps wait, raised one after the other.
-use Rattle.std.proofs.Common.{◌≡◌, ◌<◌, ◌≤◌, ◌+◌, ◌^◌, ◌++◌, ℕ, suc, zero, Bool, true, false, ◌||◌, List, [], ◌∷◌, Option, Some, None, is_some, length, take, slice_index_or, nat_eq, cond, refl, sym, ap, ◌∙◌, arith}
+use Rattle.std.proofs.Common.{◌≡◌, ◌<◌, ◌≤◌, ◌+◌, ◌^◌, ◌++◌, ℕ, Bool, true, false, ◌||◌, List, [], ◌∷◌, Option, Some, None, is_some, length, nat_eq, cond, refl, sym, ap, ◌∙◌, arith}
 use Rattle.std.proofs.lemmas.Bool.Decides.{nat_tests}
-use Rattle.std.specs.Global.{Vec}
-use Rattle.cw_tables.specs.Shelves.{times, times_on}
-use Rattle.cw_tables.proofs.ShelfLemmas.{times_next, times_take}
 use Rattle.cw_tables.specs.declared.shelves.Shelves.{Shelves}
 use Rattle.cw_tables.specs.Waiting.{waits}
 use Rattle.cw_types.specs.declared.ids.Tid.{Tid}
@@ -20,28 +17,6 @@ use Rattle.cw_txn.specs.Tables.{Keeps, SameRows}
 use Rattle.cw_txn.specs.Late.{late_of, Lags}
 use Rattle.cw_txn.specs.Walk.{Found, IsSettled, Took, Walked}
 use Rattle.cw_txn.proofs.Walks.{epoch_of-push, is_committed-push, history-push, epoch_of_le}
-
--- a number that comes was not counted yet
-pub times_left : (numbers : List ℕ) (i d : ℕ) → i < length numbers → times (slice_index_or numbers i d) (take i numbers) + 1 ≤ times (slice_index_or numbers i d) numbers
-times_left numbers i d low =
-    let number : ℕ = slice_index_or numbers i d in
-    let own : cond {A = ℕ} (nat_eq number number) 1 0 ≡ 1 = grind (arith, nat_tests) in
-    omega (arith, times_next number numbers i d low, times_take number numbers (i + 1), own)
-
--- the next shelf
-suc_shelves : (q : ℕ) (shelves : List (Vec ℕ)) (i : ℕ) (d : Vec ℕ) → i < length shelves → times_on q (take (suc i) shelves) ≡ times_on q (take i shelves) + times q (slice_index_or shelves i d).items
-suc_shelves q [] i d low = absurd (omega (arith, low))
-suc_shelves q (shelf ∷ shelves) zero d low = omega arith
-suc_shelves q (shelf ∷ shelves) (suc i) d low = omega (arith, suc_shelves q shelves i d (omega arith))
-
-pub shelves_next : (q : ℕ) (shelves : List (Vec ℕ)) (i : ℕ) (d : Vec ℕ) → i < length shelves → times_on q (take (i + 1) shelves) ≡ times_on q (take i shelves) + times q (slice_index_or shelves i d).items
-shelves_next q shelves i d low = let one : i + 1 ≡ suc i = omega arith in ap (λ (n : ℕ). times_on q (take n shelves)) one ∙ suc_shelves q shelves i d low
-
-pub shelves_take : (q : ℕ) (shelves : List (Vec ℕ)) (i : ℕ) → times_on q (take i shelves) ≤ times_on q shelves
-shelves_take q [] zero = omega arith
-shelves_take q [] (suc i) = omega arith
-shelves_take q (shelf ∷ shelves) zero = omega arith
-shelves_take q (shelf ∷ shelves) (suc i) = omega (arith, shelves_take q shelves i)
 
 -- where none waits, no producer does
 none_late : (late : Shelves) → ((q : ℕ) → waits late q ≡ 0) → (tid : Tid) → late_of late tid ≡ 0

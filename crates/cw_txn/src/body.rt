@@ -1,5 +1,6 @@
 //! Bodies of the transaction log.
-ghost use Rattle.std.specs.Prelude.{◌≡◌, ◌≢◌, ◌++◌, List, length, Some, None, Ok, Err, IfOk, OnOk, MatchResult, ◌<◌, ◌^◌};
+ghost use Rattle.std.specs.Prelude.{◌≡◌, ◌≢◌, ◌++◌, ◌∷◌, [], List, length, Some, None, Ok, Err, IfSome, IfOk, OnOk, MatchResult, ◌<◌, ◌^◌};
+ghost use Rattle.cw_types.specs.declared.ids.Tid.{Tid};
 ghost use Rattle.cw_bytes.specs.Reading.{Gives, many_at, span_at};
 ghost use Rattle.cw_txn.specs.declared.entry.Entry.{Entry};
 ghost use Rattle.cw_txn.specs.declared.body.BodyFault.{BodyFault};
@@ -9,8 +10,8 @@ ghost use Rattle.cw_txn.specs.BodyReading.{some_offset_at, offset_at, set_at, li
 
 use crate::entry::{Entry, SetOffset};
 use cw_bytes::{
-    FieldFault, Reader, Writer, read_part, read_span, read_tag, read_tid, write_part, write_span,
-    write_tag, write_tid,
+    FieldFault, Reader, Writer, read_part, read_span_onto, read_tag, read_tid, write_part,
+    write_span, write_tag, write_tid,
 };
 use cw_types::{Epoch, Listed, Span};
 use std::alloc::{AllocError, Global};
@@ -40,6 +41,17 @@ impl From<FieldFault> for BodyFault {
             FieldFault::BadKind(_) => BodyFault::NotEntries,
             FieldFault::BadName(_) => BodyFault::NotEntries,
         }
+    }
+}
+
+impl From<AllocError> for BodyFault {
+    ghost use Rattle.std.specs.Prelude.{◌≡◌};
+    ghost use Rattle.cw_txn.specs.declared.body.BodyFault.TheVariants.{Memory};
+
+    ghost from_gives = { λ _ fault. fault ≡ Memory };
+
+    fn from(_: AllocError) -> Self {
+        BodyFault::Memory
     }
 }
 
@@ -81,8 +93,7 @@ fn read_many_spans(
 {
     let mut spans = Vec::with_capacity(alloc, count.min(MOST_AT_ONCE) as usize)?;
     for _ in 0..count {
-        let span = read_span(alloc, from)?;
-        spans.push(span)?;
+        read_span_onto(alloc, from, &mut spans)?;
     }
     Ok(spans)
 }
@@ -180,6 +191,19 @@ pub fn read_entry(alloc: Global, from: &mut Reader<'_>) -> Result<Entry, FieldFa
         2 => read_commit(alloc, from),
         3 => read_set_entry(alloc, from),
         _ => Err(FieldFault::BadKind(kind)),
+    }
+}
+
+// The number of the script's producer that a body bumps, where it says nothing else. Logs hold most of such bodies, so
+// that they are read in one step.
+#[inline]
+#[tactic(auto, unfolding(crate::specs::BodyReading::entries_at, crate::specs::BodyReading::count_at, crate::specs::BodyReading::entry_at, crate::specs::BodyReading::bump_at, cw_bytes::specs::Reading::many_at, cw_bytes::specs::Reading::tid_at, cw_bytes::specs::Reading::raw_id_at))]
+pub fn script_bump(body: &[u8]) -> Option<u32>
+    ensures { IfSome result (λ number. body_at body.now ≡ Some (Entry.Bump (Tid.Raw number) ∷ [])) }
+{
+    match body {
+        [0, 0, 0, 1, 1, 3, a, b, c, d] => Some(u32::from_be_bytes([*a, *b, *c, *d])),
+        _ => None,
     }
 }
 

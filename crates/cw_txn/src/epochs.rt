@@ -6,7 +6,7 @@ ghost use Rattle.cw_types.specs.Same.{same_tid};
 
 use crate::late::{make_room, raise_shelves};
 use cw_tables::hashed::{has_row, make_row, value_at};
-use cw_tables::{Forecast, Glance, Numbered, Shelves};
+use cw_tables::{Forecast, Numbered, Shelves};
 use cw_types::Tid;
 use std::alloc::{AllocError, Global};
 use std::collections::HashMap;
@@ -53,21 +53,6 @@ impl Epochs {
                 let raised = self.numbered.get(*number).unwrap_or(0);
                 raised as u64 + late.count(*number) as u64
             }
-        }
-    }
-
-    // Looks for the row of a script's producer.
-    #[inline]
-    pub fn glance(&self, tid: &Tid, glance: &mut Glance) {
-        if let Tid::Raw(number) = tid {
-            glance.note(self.numbered.is_free(*number));
-        }
-    }
-
-    // Counts a script's producer, which is new or not.
-    pub fn count(&self, tid: &Tid, forecast: &mut Forecast) {
-        if let Tid::Raw(number) = tid {
-            forecast.count(self.numbered.get(*number).is_none());
         }
     }
 
@@ -119,21 +104,10 @@ impl Epochs {
         requires { (q : Tid) → epoch_at self.old q + 1 < 2 ^ 32 }
         ensures { OnOk result ((q : Tid) → epoch_at self.new q ≡ (if same_tid q tid.now then epoch_at self.old q + 1 else epoch_at self.old q)) }
     {
-        if self.raise(tid) {
-            return Ok(());
-        }
-        self.begin(tid)
-    }
-
-    // The first epoch of a producer that has no row.
-    fn begin(&mut self, tid: &Tid) -> Result<(), AllocError>
-        requires { epoch_row self.old tid.now ≡ None }
-        ensures { OnOk result ((q : Tid) → epoch_at self.new q ≡ (if same_tid q tid.now then 1 else epoch_at self.old q)) }
-    {
         match tid {
-            Tid::Lead => begin_name(&mut self.named, tid),
-            Tid::Task(_) => begin_name(&mut self.named, tid),
-            Tid::Raw(number) => self.numbered.insert(*number, 1, 0),
+            Tid::Lead => put_name(&mut self.named, tid),
+            Tid::Task(_) => put_name(&mut self.named, tid),
+            Tid::Raw(number) => put_number(&mut self.numbered, *number),
         }
     }
 }
@@ -153,15 +127,27 @@ fn make_named(rows: &mut HashMap<Tid, u64>, tid: &Tid) -> Result<(), AllocError>
     make_row(rows, tid.copy()?, 0)
 }
 
-fn begin_name(rows: &mut HashMap<Tid, u64>, tid: &Tid) -> Result<(), AllocError>
-    requires { get tid_eq rows.old tid.now ≡ None }
-    ensures { OnOk result ((q : Tid) → get tid_eq rows.new q ≡ (if tid_eq tid.now q then Some 1 else get tid_eq rows.old q)) }
+fn put_name(rows: &mut HashMap<Tid, u64>, tid: &Tid) -> Result<(), AllocError>
+    requires { unwrap_or (get tid_eq rows.old tid.now) 0 + 1 < 2 ^ 32 }
+    ensures { OnOk result ((q : Tid) → get tid_eq rows.new q ≡ (if tid_eq tid.now q then Some (unwrap_or (get tid_eq rows.old tid.now) 0 + 1) else get tid_eq rows.old q)) }
 {
+    if raise_name(rows, tid) {
+        return Ok(());
+    }
     rows.insert(tid.copy()?, 1)?;
     Ok(())
 }
 
-pub fn raise_number(rows: &mut Numbered<u32>, number: u32) -> bool
+// Raises the epoch of a number by one, in its row or in a new one.
+pub fn put_number(rows: &mut Numbered<u32>, number: u32) -> Result<(), AllocError>
+    requires { unwrap_or (numbered_row rows.old number) 0 + 1 < 2 ^ 32 }
+    ensures { OnOk result ((q : ℕ) → unwrap_or (numbered_row rows.new q) 0 ≡ unwrap_or (numbered_row rows.old q) 0 + (if nat_eq number q then 1 else 0)) }
+{
+    let (place, row) = rows.find(number);
+    rows.set_at(place, number, row.unwrap_or(0) + 1, 0)
+}
+
+fn raise_number(rows: &mut Numbered<u32>, number: u32) -> bool
     requires { unwrap_or (numbered_row rows.old number) 0 + 1 < 2 ^ 32 }
     ensures there { result ≡ is_some (numbered_row rows.old number) }
     ensures raised { (q : ℕ) → numbered_row rows.new q ≡ (if result && nat_eq number q then Some (unwrap_or (numbered_row rows.old number) 0 + 1) else numbered_row rows.old q) }

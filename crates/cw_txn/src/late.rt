@@ -4,8 +4,9 @@ ghost use Rattle.std.specs.Global.{Vec};
 ghost use Rattle.cw_tables.specs.Numbered.{numbered_row};
 ghost use Rattle.cw_tables.specs.Shelves.{times, times_on};
 
-use crate::epochs::raise_number;
-use cw_tables::{Forecast, Glance, Numbered, Shelves};
+use crate::epochs::put_number;
+use crate::sought::{forecast_by, lack_room};
+use cw_tables::{Glance, Numbered, Shelves};
 use std::alloc::{AllocError, Global};
 
 // So many numbers at most are looked for at once, whatever their shelves, so that the memory near a processor holds what
@@ -22,8 +23,7 @@ pub fn make_room(rows: &mut Numbered<u32>, late: &Shelves, behind: u64) -> Resul
         return Ok(());
     }
     if let Some(sample) = fullest(late.lists()) {
-        let mut forecast = forecast_of(rows, sample.as_slice());
-        forecast.stand_for(sample.len(), late.len());
+        let mut forecast = forecast_by(rows, sample, late.len());
         forecast.go_on(1, behind);
         rows.make_room(&forecast)?;
     }
@@ -33,15 +33,9 @@ pub fn make_room(rows: &mut Numbered<u32>, late: &Shelves, behind: u64) -> Resul
 fn glance_at_all(rows: &Numbered<u32>, shelves: &[Vec<u32>]) -> Glance {
     let mut glance = Glance::NONE;
     for shelf in shelves {
-        glance_at(rows, shelf.as_slice(), &mut glance);
+        rows.glance(shelf.as_slice(), &mut glance);
     }
     glance
-}
-
-fn glance_at(rows: &Numbered<u32>, numbers: &[u32], glance: &mut Glance) {
-    for number in numbers {
-        glance.note(rows.is_free(*number));
-    }
 }
 
 fn fullest(shelves: &[Vec<u32>]) -> Option<&Vec<u32>> {
@@ -64,21 +58,11 @@ fn raise_shelf(rows: &mut Numbered<u32>, numbers: &[u32]) -> Result<(), AllocErr
     requires { (q : ℕ) → unwrap_or (numbered_row rows.old q) 0 + times q numbers.now < 2 ^ 32 }
     ensures { OnOk result ((q : ℕ) → unwrap_or (numbered_row rows.new q) 0 ≡ unwrap_or (numbered_row rows.old q) 0 + times q numbers.now) }
 {
-    let mut glance = Glance::NONE;
-    glance_at(rows, numbers, &mut glance);
-    if rows.lacks_room(&glance) {
-        let forecast = forecast_of(rows, numbers);
+    if lack_room(rows, numbers) {
+        let forecast = forecast_by(rows, numbers, numbers.len());
         rows.make_room(&forecast)?;
     }
     raise_each(rows, numbers)
-}
-
-fn forecast_of(rows: &Numbered<u32>, numbers: &[u32]) -> Forecast {
-    let mut forecast = Forecast::NONE;
-    for number in numbers {
-        forecast.count(rows.get(*number).is_none());
-    }
-    forecast
 }
 
 fn raise_each(rows: &mut Numbered<u32>, numbers: &[u32]) -> Result<(), AllocError>
@@ -86,18 +70,7 @@ fn raise_each(rows: &mut Numbered<u32>, numbers: &[u32]) -> Result<(), AllocErro
     ensures { OnOk result ((q : ℕ) → unwrap_or (numbered_row rows.new q) 0 ≡ unwrap_or (numbered_row rows.old q) 0 + times q numbers.now) }
 {
     for number in numbers {
-        raise_or_begin(rows, *number)?;
+        put_number(rows, *number)?;
     }
     Ok(())
-}
-
-// Raises the epoch of one number, in its row or in a new one.
-fn raise_or_begin(rows: &mut Numbered<u32>, number: u32) -> Result<(), AllocError>
-    requires { unwrap_or (numbered_row rows.old number) 0 + 1 < 2 ^ 32 }
-    ensures { OnOk result ((q : ℕ) → unwrap_or (numbered_row rows.new q) 0 ≡ unwrap_or (numbered_row rows.old q) 0 + (if nat_eq number q then 1 else 0)) }
-{
-    if raise_number(rows, number) {
-        return Ok(());
-    }
-    rows.insert(number, 1, 0)
 }

@@ -15,6 +15,7 @@ mod epochs;
 mod late;
 mod parts;
 mod replay;
+mod sought;
 mod tables;
 #[cfg(test)]
 mod tests;

@@ -7,7 +7,7 @@ ghost use Rattle.cw_types.specs.Same.{same_part, part_eq};
 ghost use Rattle.cw_txn.specs.History.{unset, after_span, GoesOn};
 
 use cw_tables::hashed::{has_row, make_row, set_row, value_at};
-use cw_tables::{Forecast, Glance, Numbered};
+use cw_tables::{Forecast, Numbered};
 use cw_types::{PartKey, Span};
 use std::alloc::{AllocError, Global};
 use std::collections::HashMap;
@@ -59,21 +59,6 @@ impl Parts {
             PartKey::File { .. } => value_at(&self.named, part, History::UNSET),
             PartKey::Seq { .. } => value_at(&self.named, part, History::UNSET),
             PartKey::Sink { .. } => value_at(&self.named, part, History::UNSET),
-        }
-    }
-
-    // Looks for the row of a script's part.
-    #[inline]
-    pub fn glance(&self, part: &PartKey, glance: &mut Glance) {
-        if let PartKey::Raw(number) = part {
-            glance.note(self.numbered.is_free(*number));
-        }
-    }
-
-    // Counts a script's part, which is new or not.
-    pub fn count(&self, part: &PartKey, forecast: &mut Forecast) {
-        if let PartKey::Raw(number) = part {
-            forecast.count(self.numbered.get(*number).is_none());
         }
     }
 
@@ -129,26 +114,11 @@ impl Parts {
         ensures moved { OnOk result ((part : PartKey) → history_at self.new part ≡ after_span part (history_at self.old part) span.now) }
         ensures goes_on { IfOk result (λ goes_on. IsTrue goes_on ↔ GoesOn (history_at self.old span.now.part) span.now) }
     {
-        match self.move_end(span) {
-            Some(before) => Ok(before.goes_on(span)),
-            None => {
-                self.begin(span)?;
-                Ok(History::UNSET.goes_on(span))
-            }
-        }
-    }
-
-    // The first end of a part that has no row.
-    fn begin(&mut self, span: &Span) -> Result<(), AllocError>
-        requires { part_row self.old span.now.part ≡ None }
-        ensures { OnOk result ((part : PartKey) → history_at self.new part ≡ after_span part (history_at self.old part) span.now) }
-    {
-        let history = ended(History::UNSET, span);
         match &span.part {
-            PartKey::Raw(number) => self.numbered.insert(*number, history, History::UNSET),
-            PartKey::File { .. } => begin_name(&mut self.named, span, history),
-            PartKey::Seq { .. } => begin_name(&mut self.named, span, history),
-            PartKey::Sink { .. } => begin_name(&mut self.named, span, history),
+            PartKey::Raw(number) => put_number(&mut self.numbered, *number, span),
+            PartKey::File { .. } => put_name(&mut self.named, span),
+            PartKey::Seq { .. } => put_name(&mut self.named, span),
+            PartKey::Sink { .. } => put_name(&mut self.named, span),
         }
     }
 }
@@ -164,16 +134,29 @@ fn make_named(rows: &mut HashMap<PartKey, History>, part: &PartKey) -> Result<()
     make_row(rows, part.copy()?, History::UNSET)
 }
 
-fn begin_name(
-    rows: &mut HashMap<PartKey, History>,
-    span: &Span,
-    history: History,
-) -> Result<(), AllocError>
-    requires { get part_eq rows.old span.now.part ≡ None }
-    ensures { OnOk result ((q : PartKey) → get part_eq rows.new q ≡ (if part_eq span.now.part q then Some history else get part_eq rows.old q)) }
+fn put_name(rows: &mut HashMap<PartKey, History>, span: &Span) -> Result<bool, AllocError>
+    ensures moved { OnOk result ((q : PartKey) → unwrap_or (get part_eq rows.new q) unset ≡
+        (if part_eq span.now.part q then record { base = (unwrap_or (get part_eq rows.old q) unset).base; end = Some span.now.to } else unwrap_or (get part_eq rows.old q) unset)) }
+    ensures goes_on { IfOk result (λ goes_on. IsTrue goes_on ↔ GoesOn (unwrap_or (get part_eq rows.old span.now.part) unset) span.now) }
 {
-    rows.insert(span.part.copy()?, history)?;
-    Ok(())
+    match move_name(rows, span) {
+        Some(before) => Ok(before.goes_on(span)),
+        None => {
+            rows.insert(span.part.copy()?, ended(History::UNSET, span))?;
+            Ok(History::UNSET.goes_on(span))
+        }
+    }
+}
+
+fn put_number(rows: &mut Numbered<History>, number: u32, span: &Span) -> Result<bool, AllocError>
+    ensures moved { OnOk result ((q : ℕ) → unwrap_or (numbered_row rows.new q) unset ≡
+        (if nat_eq number q then record { base = (unwrap_or (numbered_row rows.old q) unset).base; end = Some span.now.to } else unwrap_or (numbered_row rows.old q) unset)) }
+    ensures goes_on { IfOk result (λ goes_on. IsTrue goes_on ↔ GoesOn (unwrap_or (numbered_row rows.old number) unset) span.now) }
+{
+    let (place, row) = rows.find(number);
+    let before = row.unwrap_or(History::UNSET);
+    rows.set_at(place, number, ended(before, span), History::UNSET)?;
+    Ok(before.goes_on(span))
 }
 
 fn move_number(rows: &mut Numbered<History>, number: u32, span: &Span) -> Option<History>

@@ -12,18 +12,19 @@ ghost use Rattle.cw_txn.specs.Walk.{OnListFault, Took, Walked};
 ghost use Rattle.cw_txn.specs.Queue.{Queued, Settled, TookAll};
 ghost use Rattle.cw_txn.specs.Replayed.{TakesBody};
 
-use crate::body::{BodyFault, read_count, read_entry};
+use crate::body::{BodyFault, read_count, read_entry, script_bump};
 use crate::coordinator::Coordinator;
 use crate::entry::Entry;
-use crate::tables::{Forecasts, Glances, Tables};
+use crate::sought::{Forecasts, Sought};
+use crate::tables::Tables;
 use crate::walk::Walk;
 use cw_bytes::{FieldFault, Reader};
 use cw_types::{Past, Tid};
 use std::alloc::{AllocError, Global};
 use std::marker::Model;
 
-// So many entries at most wait for their rows, which are looked for together.
-const MOST_LOOKED_FOR: usize = 32;
+// Entries wait as long as fewer rows of theirs are looked for together.
+const MOST_SOUGHT: usize = 512;
 
 // So many entries wait at most, with the bumps among them whose rows aren't looked for.
 const MOST_WAITING: usize = 256;
@@ -66,8 +67,8 @@ pub struct Replay {
 struct Queue {
     walk: Walk,
     waiting: Vec<Waiting>,
-    // so many of them wait for their rows, and how bumps came; nothing but speed depends on them
-    looked_for: usize,
+    // the rows that are looked for, and how bumps came; nothing but speed and memory depends on them
+    sought: Sought,
     streak: Streak,
 }
 
@@ -92,15 +93,17 @@ impl Streak {
         before: MANY_BUMPS,
     };
 
-    // One entry more.
+    // One bump more.
     #[inline]
-    fn note(&mut self, entry: &Entry) {
-        if let Entry::Bump(_) = entry {
-            self.now = self.now.saturating_add(1);
-        } else {
-            self.before = self.now;
-            self.now = 0;
-        }
+    fn go_on(&mut self) {
+        self.now = self.now.saturating_add(1);
+    }
+
+    // One other entry more.
+    #[inline]
+    fn end(&mut self) {
+        self.before = self.now;
+        self.now = 0;
     }
 
     // Whether other entries are rare among bumps.
@@ -180,7 +183,7 @@ impl Queue {
         Queue {
             walk: Walk::new(alloc, size),
             waiting: Vec::new(alloc),
-            looked_for: 0,
+            sought: Sought::new(alloc),
             streak: Streak::LONG,
         }
     }
@@ -196,6 +199,10 @@ impl Queue {
         ensures read { MatchResult result (λ group. body_at body.now ≡ Some group.items) (λ fault. fault ≢ BodyFault.Memory → body_at body.now ≡ None) }
         ensures queued { IfOk result (λ group. Queued group.items gate self.old self.new) }
     {
+        if let Some(number) = script_bump(body) {
+            self.put_bump(alloc, number, gate)?;
+            return Ok(Past::new().and(&Entry::Bump(Tid::Raw(number))));
+        }
         let mut from = Reader::new(body);
         let group = self.take_all(alloc, gate, &mut from)?;
         if !from.is_empty() {
@@ -241,33 +248,53 @@ impl Queue {
         Ok(group)
     }
 
-    // One entry more, which waits behind the others, or whose row does.
+    // One entry more, which waits for its row behind the others.
     fn put(&mut self, alloc: Global, entry: Entry, gate: u64) -> Result<(), AllocError>
         requires { Walked self.old.walk }
         ensures { OnOk result (Queued (entry ∷ []) gate self.old self.new) }
     {
-        self.make_room(alloc)?;
-        self.streak.note(&entry);
-        match late_bump(&self.walk, &entry) {
-            Some(number) if self.streak.is_long() => self.put_off(number, entry, gate),
-            _ => {
-                self.looked_for = self.looked_for.saturating_add(1);
-                self.wait(entry, gate, false)
-            }
+        if let Some(number) = bumped(&entry) {
+            return self.put_bump(alloc, number, gate);
         }
+        self.make_room(alloc)?;
+        self.streak.end();
+        self.look_for(entry, gate)
+    }
+
+    // One bump more of a script's producer, which is put off where its row is far off or other bumps wait already.
+    #[inline(always)]
+    fn put_bump(&mut self, alloc: Global, number: u32, gate: u64) -> Result<(), AllocError>
+        requires { Walked self.old.walk }
+        ensures { OnOk result (Queued (Entry.Bump (Tid.Raw number) ∷ []) gate self.old self.new) }
+    {
+        self.make_room(alloc)?;
+        self.streak.go_on();
+        if self.streak.is_long() && self.walk.is_late(number) {
+            return self.put_off(number, gate);
+        }
+        self.look_for(Entry::Bump(Tid::Raw(number)), gate)
     }
 
     // One bump more, which is put off, if need be behind the entries that wait.
-    #[inline]
-    fn put_off(&mut self, number: u32, entry: Entry, gate: u64) -> Result<(), AllocError>
-        requires walked { Walked self.old.walk }
-        requires bump { entry ≡ Entry.Bump (Tid.Raw number) }
-        ensures { OnOk result (Queued (entry ∷ []) gate self.old self.new) }
+    #[inline(always)]
+    fn put_off(&mut self, number: u32, gate: u64) -> Result<(), AllocError>
+        requires { Walked self.old.walk }
+        ensures { OnOk result (Queued (Entry.Bump (Tid.Raw number) ∷ []) gate self.old self.new) }
     {
         if self.waiting.is_empty() {
             return self.walk.put_off(number, gate);
         }
-        self.wait(entry, gate, true)
+        self.wait(Entry::Bump(Tid::Raw(number)), gate, true)
+    }
+
+    // One entry more that waits for its row.
+    #[inline]
+    fn look_for(&mut self, entry: Entry, gate: u64) -> Result<(), AllocError>
+        requires { Walked self.old.walk }
+        ensures { OnOk result (Queued (entry ∷ []) gate self.old self.new) }
+    {
+        self.sought.note(&entry)?;
+        self.wait(entry, gate, false)
     }
 
     // One entry more that waits behind the others.
@@ -285,20 +312,34 @@ impl Queue {
     }
 
     // Takes those that wait where they are many.
+    #[inline(always)]
     fn make_room(&mut self, alloc: Global) -> Result<(), AllocError>
         requires { Walked self.old.walk }
         ensures { OnOk result (Queued [] 0 self.old self.new) }
     {
-        if self.looked_for < MOST_LOOKED_FOR && self.waiting.len() < MOST_WAITING {
+        if self.sought.len() < MOST_SOUGHT && self.waiting.len() < MOST_WAITING {
             return Ok(());
         }
-        if lack_room(&self.walk.tables, &self.waiting) {
-            let forecasts = forecasts_of(&self.walk.tables, &self.waiting, self.walk.size);
+        self.take_those(alloc)
+    }
+
+    // Takes those that wait. Their rows are looked for first.
+    fn take_those(&mut self, alloc: Global) -> Result<(), AllocError>
+        requires { Walked self.old.walk }
+        ensures { OnOk result (Queued [] 0 self.old self.new) }
+    {
+        if self.walk.tables.lacks_room(&self.sought) {
+            let forecasts = forecasts_of(
+                &self.walk.tables,
+                &self.sought,
+                &self.waiting,
+                self.walk.size,
+            );
             self.walk.make_room(&forecasts)?;
         }
         take_waiting(&mut self.walk, alloc, self.waiting.as_slice())?;
         self.waiting.clear();
-        self.looked_for = 0;
+        self.sought.clear();
         Ok(())
     }
 
@@ -316,36 +357,19 @@ impl Queue {
 
 ghost use Rattle.cw_txn.specs.declared.replay.Waiting.{Waiting};
 
-// The number of a script's producer that an entry bumps, where its row is far off or other bumps wait already.
-fn late_bump(walk: &Walk, entry: &Entry) -> Option<u32>
+// The number of a script's producer that an entry bumps.
+fn bumped(entry: &Entry) -> Option<u32>
     ensures { IfSome result (λ number. entry.now ≡ Entry.Bump (Tid.Raw number)) }
 {
     match entry {
-        Entry::Bump(Tid::Raw(number)) if walk.is_late(*number) => Some(*number),
+        Entry::Bump(Tid::Raw(number)) => Some(*number),
         _ => None,
     }
 }
 
-// Whether these entries may need more room than there is. One row is looked for close behind the other, so that a
-// processor waits for the memory of many at once, and it lies near when they are changed.
-fn lack_room(tables: &Tables, waiting: &[Waiting]) -> bool {
-    let mut glances = Glances::NONE;
-    for next in waiting {
-        if !next.is_put_off {
-            tables.glance(&next.entry, &mut glances);
-        }
-    }
-    tables.lacks_room(&glances)
-}
-
-// How many rows these entries make, and others behind them may make in a log of this size.
-fn forecasts_of(tables: &Tables, waiting: &[Waiting], size: u64) -> Forecasts {
-    let mut forecasts = Forecasts::NONE;
-    for next in waiting {
-        if !next.is_put_off {
-            tables.count(&next.entry, &mut forecasts);
-        }
-    }
+// How many of these rows are new, and how many others behind the entries that wait may be in a log of this size.
+fn forecasts_of(tables: &Tables, sought: &Sought, waiting: &[Waiting], size: u64) -> Forecasts {
+    let mut forecasts = tables.forecasts(sought);
     if let [first, .., last] = waiting {
         forecasts.go_on(
             last.gate.saturating_sub(first.gate),
@@ -371,7 +395,7 @@ fn take_one(walk: &mut Walk, alloc: Global, next: &Waiting) -> Result<(), AllocE
     requires { Walked walk.old }
     ensures { OnOk result (Took (next.now.entry ∷ []) next.now.gate walk.old walk.new) }
 {
-    match late_bump(walk, &next.entry) {
+    match bumped(&next.entry) {
         Some(number) if next.is_put_off => walk.put_off(number, next.gate),
         _ => walk.take(alloc, &next.entry, next.gate),
     }

@@ -11,7 +11,7 @@ use crate::commits::Commits;
 use crate::entry::{Entry, EntryRef, SetOffset};
 use crate::epochs::Epochs;
 use crate::parts::{History, Parts};
-use cw_tables::{Forecast, Glance};
+use crate::sought::{Forecasts, Sought, forecast_by, lack_room};
 use cw_types::{Name, PartKey, Span, Tag, Tid};
 use std::alloc::{AllocError, Global};
 
@@ -21,41 +21,6 @@ pub struct Tables {
     pub epochs: Epochs,
     pub committed: Commits,
     pub parts: Parts,
-}
-
-// One look at the rows of the scripts' producers and parts of some entries. Nothing but speed depends on it.
-#[derive(Clone, Copy, Drop)]
-pub struct Glances {
-    producers: Glance,
-    parts: Glance,
-}
-
-impl Glances {
-    pub const NONE: Glances = Glances {
-        producers: Glance::NONE,
-        parts: Glance::NONE,
-    };
-}
-
-// How many rows of scripts' producers and parts are new of some entries, and may be behind them. Nothing but speed and
-// memory depends on it.
-#[derive(Clone, Copy, Drop)]
-pub struct Forecasts {
-    producers: Forecast,
-    parts: Forecast,
-}
-
-impl Forecasts {
-    pub const NONE: Forecasts = Forecasts {
-        producers: Forecast::NONE,
-        parts: Forecast::NONE,
-    };
-
-    // Expects as many new rows in proportion behind entries that took so many bytes, where so many are left.
-    pub fn go_on(&mut self, taken: u64, left: u64) {
-        self.producers.go_on(taken, left);
-        self.parts.go_on(taken, left);
-    }
 }
 
 impl Tables {
@@ -109,34 +74,19 @@ impl Tables {
         Ok(parts)
     }
 
-    // Looks for the rows that an entry changes.
-    #[inline]
-    pub fn glance(&self, entry: &Entry, glances: &mut Glances) {
-        match entry {
-            Entry::Bump(tid) => self.epochs.glance(tid, &mut glances.producers),
-            Entry::Commit { tag, spans, .. } => {
-                self.epochs.glance(&tag.tid, &mut glances.producers);
-                glance_parts(&self.parts, spans.as_slice(), &mut glances.parts);
-            }
-            Entry::Set { .. } => {}
-        }
+    // Looks for these rows, and says whether they may need more room than there is.
+    pub fn lacks_room(&self, sought: &Sought) -> bool {
+        let producers = lack_room(&self.epochs.numbered, sought.producers.as_slice());
+        let parts = lack_room(&self.parts.numbered, sought.parts.as_slice());
+        producers || parts
     }
 
-    // Whether the rows of a glance may need more room than there is.
-    pub fn lacks_room(&self, glances: &Glances) -> bool {
-        self.epochs.numbered.lacks_room(&glances.producers)
-            || self.parts.numbered.lacks_room(&glances.parts)
-    }
-
-    // Counts the rows that an entry changes.
-    pub fn count(&self, entry: &Entry, forecasts: &mut Forecasts) {
-        match entry {
-            Entry::Bump(tid) => self.epochs.count(tid, &mut forecasts.producers),
-            Entry::Commit { tag, spans, .. } => {
-                self.epochs.count(&tag.tid, &mut forecasts.producers);
-                count_parts(&self.parts, spans.as_slice(), &mut forecasts.parts);
-            }
-            Entry::Set { .. } => {}
+    // How many of these rows are new.
+    pub fn forecasts(&self, sought: &Sought) -> Forecasts {
+        let (producers, parts) = (&sought.producers, &sought.parts);
+        Forecasts {
+            producers: forecast_by(&self.epochs.numbered, producers, producers.len()),
+            parts: forecast_by(&self.parts.numbered, parts, parts.len()),
         }
     }
 
@@ -242,18 +192,6 @@ pub fn same_names(a: &Name, b: &Name) -> bool
     ensures { result ≡ bytes_eq a.now b.now }
 {
     a == b
-}
-
-fn glance_parts(parts: &Parts, spans: &[Span], glance: &mut Glance) {
-    for span in spans {
-        parts.glance(&span.part, glance);
-    }
-}
-
-fn count_parts(parts: &Parts, spans: &[Span], forecast: &mut Forecast) {
-    for span in spans {
-        parts.count(&span.part, forecast);
-    }
 }
 
 fn make_span_parts(parts: &mut Parts, spans: &[Span]) -> Result<(), AllocError>

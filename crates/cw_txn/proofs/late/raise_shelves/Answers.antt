@@ -1,7 +1,7 @@
 use Rattle.std.proofs.Common.{◌≡◌, ◌+◌, ℕ, sym, ap, arith, slice_index_or}
 use Rattle.std.specs.Global.{Vec}
 use Rattle.cw_tables.specs.Shelves.{times}
-use Rattle.cw_txn.proofs.LateLemmas.{shelves_next, shelves_take}
+use Rattle.cw_tables.proofs.ShelfLemmas.{shelves_next, shelves_take}
 use Rattle.cw_txn.proofs.late.raise_shelves.Goals as goal
 
 pub raise_shelf-requires : goal.raise_shelf-requires
