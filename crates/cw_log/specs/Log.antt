@@ -1,7 +1,7 @@
 -- Which list of bodies a log file stands for (this project's own format). A header of 16 bytes: a gate, `CWL`, version 1, the kind
 -- of the log, two bytes 0, the side number. Then frames: a gate, the length in four bytes, the body. A gate is closed where it is 0.
 -- The list ends at the first closed gate, after which nothing counts. Numbers are big-endian.
-use Rattle.std.specs.Prelude.{◌≡◌, ◌≤◌, ◌<◌, ◌⊎◌, ◌==◌, ◌+◌, ◌^◌, ℕ, zero, suc, List, [], ◌∷◌, ◌++◌, length, take, drop, map, not, Option, Some, None, if◌then◌else◌, nat_lt, slice_index_or}
+use Rattle.std.specs.Prelude.{◌≡◌, ◌≤◌, ◌<◌, ◌⊎◌, ◌==◌, ◌+◌, ◌-◌, ◌^◌, ℕ, zero, suc, List, [], ◌∷◌, ◌++◌, length, take, drop, map, not, Option, Some, None, if◌then◌else◌, nat_lt, slice_index_or}
 use Rattle.std.specs.Int.{w32, w64, to_be_bytes, from_be_bytes}
 use Rattle.cw_types.specs.declared.logs.LogName.{LogName}
 use Rattle.cw_types.specs.declared.logs.LogName.TheVariants.{Config, Offsets, Status, Txn, Batches}
@@ -11,6 +11,7 @@ use Rattle.cw_log.specs.declared.fault.OpenCause.{OpenCause}
 use Rattle.cw_log.specs.declared.fault.OpenCause.TheVariants.{Damaged, Failed, Memory}
 use Rattle.cw_log.specs.declared.place.Place.{Place}
 use Rattle.cw_log.specs.declared.place.Frame.{Frame}
+use Rattle.cw_log.specs.declared.place.Frames.{Frames}
 use Rattle.cw_log.specs.declared.place.Frame.TheVariants.{Closed, Broken, Open}
 
 -- the number of a log's kind
@@ -138,6 +139,15 @@ length_of (body ∷ bodies) = (length body + 5) + length_of bodies
 abbrev pub places_from : ℕ → List (List ℕ) → List Place
 places_from at [] = []
 places_from at (body ∷ bodies) = record { at = at; length = length body } ∷ places_from (at + (5 + length body)) bodies
+
+-- where the frames lie that begin here, up to a gate: a body goes from five bytes behind its frame's begin to the next begin, or to the gate
+abbrev pub places_before : ℕ → List ℕ → List Place
+places_before gate [] = []
+places_before gate (start ∷ starts) = record { at = start; length = slice_index_or starts 0 gate - (start + 5) } ∷ places_before gate starts
+
+-- where these frames lie
+abbrev pub places_of : Frames → List Place
+places_of frames = places_before frames.gate frames.starts.items
 
 -- the bodies at these places
 abbrev pub bodies_at : List Place → List ℕ → List (List ℕ)

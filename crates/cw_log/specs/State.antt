@@ -3,8 +3,9 @@ use Rattle.std.specs.Prelude.{◌≡◌, ◌≤◌, ◌<◌, ◌+◌, ◌-◌, �
 use Rattle.std.specs.declared.alloc.Global.{Global}
 use Rattle.cw_disk.specs.Disk.{Only}
 use Rattle.cw_log.specs.Calls.{IsAhead}
-use Rattle.cw_log.specs.Log.{IsHead, Begins, StandsFor, bodies_at}
+use Rattle.cw_log.specs.Log.{IsHead, Begins, StandsFor, bodies_at, places_of}
 use Rattle.cw_log.specs.declared.place.Place.{Place}
+use Rattle.cw_log.specs.declared.place.Frames.{Frames}
 use Rattle.cw_log.specs.declared.window.Window.{Window}
 use Rattle.cw_log.specs.declared.fault.AppendFault.{AppendFault}
 use Rattle.cw_log.specs.declared.fault.AppendFault.TheVariants.{Failed, Full, Shut, Memory}
@@ -73,11 +74,18 @@ pub record OpensTo (kind : ℕ) (places : List Place) (now : Option (List ℕ)) 
 abbrev pub HasFront : ℕ → List ℕ → List ℕ → Type 0
 HasFront n file other = take n other ≡ take n file
 
+-- the same frames, in as much room or more
+pub record KeepsFrames (old new : Frames) : Type 0 where
+  pub starts : new.starts.items ≡ old.starts.items
+  pub gate : new.gate ≡ old.gate
+  pub count : vec_len new.starts ≡ vec_len old.starts
+  pub room : vec_capacity old.starts ≤ vec_capacity new.starts
+
 -- there is room for a body of so many bytes, as far as numbers go
-pub record HasRoom {D : Type 0} (reserved : D → ℕ) (disk : D) (gate ready : ℕ) (places : Vec Place Global) (tail : Vec ℕ Global) : Type 0 where
+pub record HasRoom {D : Type 0} (reserved : D → ℕ) (disk : D) (ready : ℕ) (frames : Frames) (tail : Vec ℕ Global) : Type 0 where
   pub frame : min (ready + 5) (2 ^ 64 - 1) ≤ vec_capacity tail
-  pub place : vec_len places < vec_capacity places
-  pub bytes : min (gate + 1 + (ready + 5)) (2 ^ 64 - 1) ≤ reserved disk
+  pub place : vec_len frames.starts < vec_capacity frames.starts
+  pub bytes : min (frames.gate + 1 + (ready + 5)) (2 ^ 64 - 1) ≤ reserved disk
 
 -- what each fault of an append says
 abbrev pub OnAppendFault : (failed : Type 0) → (full : ℕ → ℕ → Type 0) → (shut memory : Type 0) → AppendFault → Type 0
@@ -92,12 +100,12 @@ OnReadFault failed memory reads.Failed = failed
 OnReadFault failed memory reads.Memory = memory
 
 -- what a log keeps of itself
-pub record IsLog {D : Type 0} (holds : D → Option (List ℕ)) (may_leave : D → List ℕ → Type 0) (reserved : D → ℕ) (disk : D) (kind gate ready : ℕ) (places : Vec Place Global) (tail : Vec ℕ Global) (ahead : Option Window) (shut : Bool) : Type 0 where
-  pub kept : (file : List ℕ) → holds disk ≡ Some file → IsKept kind gate places.items file
-  pub rest : shut ≡ false → (file : List ℕ) → holds disk ≡ Some file → IsRest gate (may_leave disk) file
-  pub low : 16 ≤ gate
-  pub high : gate + 1 < 2 ^ 64
-  pub room : 0 < ready → HasRoom reserved disk gate ready places tail
+pub record IsLog {D : Type 0} (holds : D → Option (List ℕ)) (may_leave : D → List ℕ → Type 0) (reserved : D → ℕ) (disk : D) (kind ready : ℕ) (frames : Frames) (tail : Vec ℕ Global) (ahead : Option Window) (shut : Bool) : Type 0 where
+  pub kept : (file : List ℕ) → holds disk ≡ Some file → IsKept kind frames.gate (places_of frames) file
+  pub rest : shut ≡ false → (file : List ℕ) → holds disk ≡ Some file → IsRest frames.gate (may_leave disk) file
+  pub low : 16 ≤ frames.gate
+  pub high : frames.gate + 1 < 2 ^ 64
+  pub room : 0 < ready → HasRoom reserved disk ready frames tail
   pub ahead_is : IsAhead (holds disk) ahead
 
 -- one of these images stands for the list

@@ -1,11 +1,10 @@
 // A frame that is put behind a closed gate.
-ghost use Rattle.std.specs.Prelude.{◌≡◌, ◌≤◌, ◌<◌, ◌+◌, ◌^◌, List, ℕ, Some, [], ◌∷◌, ◌++◌, length, take, OnOk, OnErr, is_some, option_map, vec_capacity, vec_len};
+ghost use Rattle.std.specs.Prelude.{◌≡◌, ◌≤◌, ◌<◌, ◌+◌, ◌^◌, List, ℕ, Some, [], ◌∷◌, ◌++◌, length, take, OnOk, OnErr, is_some, option_map, vec_capacity};
 ghost use Rattle.cw_disk.specs.Disk.{Only, Adds};
 ghost use Rattle.cw_types.specs.Faults.{Rose};
 ghost use Rattle.cw_log.specs.Calls.{IsGated};
 ghost use Rattle.cw_log.specs.Log.{field};
 
-use crate::Place;
 use crate::calls::open_gate;
 use cw_disk::{Disk, Failed};
 
@@ -25,16 +24,6 @@ fn fill(tail: &mut Vec<u8>, body: &[u8])
         unreachable!()
     };
     let Ok(()) = tail.push(0) else { unreachable!() };
-}
-
-// One place more, in the room that is there.
-pub(crate) fn push_place(places: &mut Vec<Place>, place: Place)
-    requires { vec_len places.old < vec_capacity places.old }
-    ensures { places.new.items ≡ places.old.items ++ place ∷ [] }
-{
-    let Ok(()) = places.push(place) else {
-        unreachable!()
-    };
 }
 
 // Puts the frame of this body behind the closed gate, which is the last byte, and opens the gate.

@@ -24,6 +24,6 @@ mod window;
 pub use body_log::BodyLog;
 pub use fault::{AppendFault, Harm, OpenCause, OpenFault, ReadFault};
 pub use law::files_read_one_way;
-pub(crate) use place::{Found, Frame, Place};
+pub(crate) use place::{Frame, Frames, Place};
 pub use topic::TopicLog;
 pub(crate) use window::Window;

@@ -3,13 +3,13 @@ ghost use Rattle.std.specs.Prelude.{◌≡◌, ◌≤◌, ◌<◌, ◌+◌, ◌^
 ghost use Rattle.cw_disk.specs.Disk.{Only, Adds};
 ghost use Rattle.cw_types.specs.Faults.{Rose};
 ghost use Rattle.cw_log.specs.Calls.{Reads};
-ghost use Rattle.cw_log.specs.Log.{IsUnmade, IsDamaged, StandsFor, StandAlike, Begins, IsFrame, OnCause, byte_at, harm_of_head, harm_of_file};
+ghost use Rattle.cw_log.specs.Log.{IsUnmade, IsDamaged, StandsFor, StandAlike, Begins, IsFrame, OnCause, byte_at, harm_of_head, harm_of_file, places_of};
 ghost use Rattle.cw_log.specs.State.{IsKept, IsRest, OpensTo, HasFront};
 
 use crate::calls::{flush, length_of, prepare, read, shorten};
 use crate::make::make;
 use crate::scan::scan;
-use crate::{Found, Harm, OpenCause};
+use crate::{Frames, Harm, OpenCause};
 use cw_disk::{Disk, Failed};
 use std::alloc::Global;
 
@@ -70,14 +70,14 @@ fn open_made<D: Disk>(
     kind: u8,
     size: u64,
     head: &[u8],
-) -> Result<Found, OpenCause>
+) -> Result<Frames, OpenCause>
     requires size { (file : List ℕ) → D.holds disk.old ≡ Some file → size ≡ length file }
     requires settled { (file : List ℕ) → D.holds disk.old ≡ Some file → Only file (D.may_leave disk.old) }
     requires made { (file : List ℕ) → D.holds disk.old ≡ Some file → (2 ≤ length file) × (0 < byte_at file 0) }
     requires head { (file : List ℕ) → D.holds disk.old ≡ Some file → 16 ≤ length file → head.now ≡ take 16 file }
     requires whole { length head.now ≡ 16 }
-    ensures kept { IfOk result (λ found. (file : List ℕ) → D.holds disk.new ≡ Some file → IsKept kind found.gate found.places.items file × IsRest found.gate (D.may_leave disk.new) file) }
-    ensures list { IfOk result (λ found. (file : List ℕ) → D.holds disk.old ≡ Some file → OpensTo kind found.places.items (D.holds disk.new) file) }
+    ensures kept { IfOk result (λ found. (file : List ℕ) → D.holds disk.new ≡ Some file → IsKept kind found.gate (places_of found) file × IsRest found.gate (D.may_leave disk.new) file) }
+    ensures list { IfOk result (λ found. (file : List ℕ) → D.holds disk.old ≡ Some file → OpensTo kind (places_of found) (D.holds disk.new) file) }
     ensures gate { IfOk result (λ found. (16 ≤ found.gate) × (found.gate + 1 < 2 ^ 64)) }
     ensures told { OnOk result (is_some (D.holds disk.new) ≡ is_some (D.holds disk.old)) }
     ensures cause { IfErr result (OnCause
@@ -102,12 +102,12 @@ fn open_made<D: Disk>(
 }
 
 // Makes a log of an unmade file of this size.
-fn open_new<D: Disk>(alloc: Global, disk: &mut D, kind: u8, size: u64) -> Result<Found, OpenCause>
+fn open_new<D: Disk>(alloc: Global, disk: &mut D, kind: u8, size: u64) -> Result<Frames, OpenCause>
     requires size { (file : List ℕ) → D.holds disk.old ≡ Some file → size ≡ length file }
     requires settled { (file : List ℕ) → D.holds disk.old ≡ Some file → Only file (D.may_leave disk.old) }
     requires unmade { (file : List ℕ) → D.holds disk.old ≡ Some file → IsUnmade file }
-    ensures kept { IfOk result (λ found. (file : List ℕ) → D.holds disk.new ≡ Some file → IsKept kind found.gate found.places.items file × IsRest found.gate (D.may_leave disk.new) file) }
-    ensures list { IfOk result (λ found. (file : List ℕ) → D.holds disk.old ≡ Some file → OpensTo kind found.places.items (D.holds disk.new) file) }
+    ensures kept { IfOk result (λ found. (file : List ℕ) → D.holds disk.new ≡ Some file → IsKept kind found.gate (places_of found) file × IsRest found.gate (D.may_leave disk.new) file) }
+    ensures list { IfOk result (λ found. (file : List ℕ) → D.holds disk.old ≡ Some file → OpensTo kind (places_of found) (D.holds disk.new) file) }
     ensures gate { IfOk result (λ found. (16 ≤ found.gate) × (found.gate + 1 < 2 ^ 64)) }
     ensures told { OnOk result (is_some (D.holds disk.new) ≡ is_some (D.holds disk.old)) }
     ensures cause { IfErr result (OnCause (λ at harm. ⊥) (Rose (D.count disk.old) (D.count disk.new)) (D.holds disk.new ≡ D.holds disk.old)) }
@@ -116,16 +116,16 @@ fn open_new<D: Disk>(alloc: Global, disk: &mut D, kind: u8, size: u64) -> Result
 {
     prepare(disk, 17)?;
     make(disk, kind, size)?;
-    Ok(Found {
-        places: Vec::new(alloc),
+    Ok(Frames {
+        starts: Vec::new(alloc),
         gate: 16,
     })
 }
 
 // Opens the file: syncs it, reads it, and makes a log of it or cuts it behind its closed gate.
-pub(crate) fn opened<D: Disk>(alloc: Global, disk: &mut D, kind: u8) -> Result<Found, OpenCause>
-    ensures kept { IfOk result (λ found. (file : List ℕ) → D.holds disk.new ≡ Some file → IsKept kind found.gate found.places.items file × IsRest found.gate (D.may_leave disk.new) file) }
-    ensures list { IfOk result (λ found. (file : List ℕ) → D.holds disk.old ≡ Some file → OpensTo kind found.places.items (D.holds disk.new) file) }
+pub(crate) fn opened<D: Disk>(alloc: Global, disk: &mut D, kind: u8) -> Result<Frames, OpenCause>
+    ensures kept { IfOk result (λ found. (file : List ℕ) → D.holds disk.new ≡ Some file → IsKept kind found.gate (places_of found) file × IsRest found.gate (D.may_leave disk.new) file) }
+    ensures list { IfOk result (λ found. (file : List ℕ) → D.holds disk.old ≡ Some file → OpensTo kind (places_of found) (D.holds disk.new) file) }
     ensures gate { IfOk result (λ found. (16 ≤ found.gate) × (found.gate + 1 < 2 ^ 64)) }
     ensures told { OnOk result (is_some (D.holds disk.new) ≡ is_some (D.holds disk.old)) }
     ensures cause { IfErr result (OnCause

@@ -2,9 +2,9 @@
 ghost use Rattle.std.specs.Prelude.{◌≡◌, ◌≤◌, ◌<◌, ◌+◌, ◌-◌, ◌^◌, List, ℕ, Some, length, take, drop, IfOk, IfErr, OnErr};
 ghost use Rattle.cw_types.specs.Faults.{Rose};
 ghost use Rattle.cw_log.specs.Calls.{Reads, Shows, IsWindow};
-ghost use Rattle.cw_log.specs.Log.{IsFrame, EndsWithin, Begins, BreaksAt, OnCause};
+ghost use Rattle.cw_log.specs.Log.{IsFrame, EndsWithin, Begins, BreaksAt, OnCause, places_of};
 
-use crate::{Found, Frame, Harm, OpenCause, Place, Window};
+use crate::{Frame, Frames, Harm, OpenCause, Window};
 use cw_disk::{Disk, Failed};
 use std::alloc::Global;
 
@@ -50,20 +50,20 @@ fn frame_at<D: Disk>(disk: &mut D, window: &mut Window, at: u64, size: u64) -> R
 }
 
 /// The frames of a file of this size, which has a header.
-pub(crate) fn scan<D: Disk>(alloc: Global, disk: &mut D, size: u64) -> Result<Found, OpenCause>
+pub(crate) fn scan<D: Disk>(alloc: Global, disk: &mut D, size: u64) -> Result<Frames, OpenCause>
     requires size { (file : List ℕ) → D.holds disk.old ≡ Some file → size ≡ length file }
     requires long { 16 ≤ size }
-    ensures found { IfOk result (λ found. (file : List ℕ) → D.holds disk.old ≡ Some file → Begins found.gate found.places.items file × IsFrame Frame.Closed (drop found.gate file)) }
+    ensures found { IfOk result (λ found. (file : List ℕ) → D.holds disk.old ≡ Some file → Begins found.gate (places_of found) file × IsFrame Frame.Closed (drop found.gate file)) }
     ensures gate { IfOk result (λ found. (16 ≤ found.gate) × (found.gate < size)) }
     ensures cause { IfErr result (OnCause (λ at harm. (harm ≡ Harm.Length) × ((file : List ℕ) → D.holds disk.old ≡ Some file → BreaksAt at file)) (Rose (D.count disk.old) (D.count disk.new)) (Unit {0})) }
     ensures reads { Reads D.holds D.may_leave D.moment D.left_since D.count D.reserved disk.old disk.new }
 {
-    let mut places = Vec::new(alloc);
+    let mut starts = Vec::new(alloc);
     let mut window = Window::new(alloc)?;
     let mut at = 16;
     'frames: loop {
         match frame_at(disk, &mut window, at, size)? {
-            Frame::Closed => return Ok(Found { places, gate: at }),
+            Frame::Closed => return Ok(Frames { starts, gate: at }),
             Frame::Broken => {
                 return Err(OpenCause::Damaged {
                     at,
@@ -71,7 +71,7 @@ pub(crate) fn scan<D: Disk>(alloc: Global, disk: &mut D, size: u64) -> Result<Fo
                 });
             }
             Frame::Open(length) => {
-                places.push(Place { at, length })?;
+                starts.push(at)?;
                 at += 5 + length;
             }
         }

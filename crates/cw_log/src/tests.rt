@@ -63,11 +63,11 @@ fn a_log_has_the_bytes_of_the_format(rt: HostRuntime) -> Result<(), Fail> {
         frame: 15,
     };
     assert_eq!(rt; add(&mut log, b"0123456789"), Err(full));
-    for (bodies, bytes) in [(0, FRESH), (2, TWO)] {
+    for (bodies, bytes) in [(&ALL[..0], FRESH), (&ALL[..2], TWO)] {
         let mut log = TopicLog::open_log(alloc, MemDisk::empty(alloc), LogName::Txn, 1000).map_err(
             |fault| fault.cause,
         )?;
-        for body in &ALL[..bodies] {
+        for body in bodies {
             assert_eq!(rt; add(&mut log, body).is_ok(), true);
         }
         assert_eq!(rt; log.length(), bytes.len() as u64);

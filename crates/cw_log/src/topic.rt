@@ -7,10 +7,10 @@ ghost use Rattle.cw_log.specs.Log.{StandsFor, StandAlike, BeforeOrAfter, IsDamag
 ghost use Rattle.cw_log.specs.State.{LogState, OnAppendFault, OnReadFault, OpensTo, IsSameLog, HasSameList, IsAppendable};
 
 use crate::calls::prepare;
-use crate::frame::{push_place, write_frame};
+use crate::frame::write_frame;
 use crate::open::opened;
 use crate::window::read_ahead;
-use crate::{AppendFault, OpenFault, Place, ReadFault, Window};
+use crate::{AppendFault, Frames, OpenFault, ReadFault, Window};
 use cw_disk::{Disk, Failed, Memory};
 use cw_types::LogName;
 use std::alloc::Global;
@@ -24,8 +24,7 @@ pub struct TopicLog<D: Disk> {
     disk: D,
     kind: u8,
     limit: u64,
-    places: Vec<Place>,
-    gate: u64,
+    frames: Frames,
     tail: Vec<u8>,
     // What was read of the file behind the body that was asked for. An append forgets it.
     ahead: Option<Window>,
@@ -36,14 +35,14 @@ pub struct TopicLog<D: Disk> {
 
 impl<D: Disk> Model for TopicLog<D> {
     ghost use Rattle.std.specs.Prelude.{◌+◌, option_map, length};
-    ghost use Rattle.cw_log.specs.Log.{bodies_at};
+    ghost use Rattle.cw_log.specs.Log.{bodies_at, places_of};
     ghost use Rattle.cw_log.specs.State.{LogState, IsLog};
 
     ghost Value = { LogState D };
 
-    ghost view = { λ l. record { disk = l.disk; kind = l.kind; bodies = option_map (bodies_at l.places.items) (D.holds l.disk); count = length l.places.items; length = l.gate + 1; limit = l.limit; ready = l.ready; shut = l.shut; failed = option_map (λ n. (0, n)) l.failed } };
+    ghost view = { λ l. record { disk = l.disk; kind = l.kind; bodies = option_map (bodies_at (places_of l.frames)) (D.holds l.disk); count = length l.frames.starts.items; length = l.frames.gate + 1; limit = l.limit; ready = l.ready; shut = l.shut; failed = option_map (λ n. (0, n)) l.failed } };
 
-    ghost invariant = { λ l. IsLog D.holds D.may_leave D.reserved l.disk l.kind l.gate l.ready l.places l.tail l.ahead l.shut };
+    ghost invariant = { λ l. IsLog D.holds D.may_leave D.reserved l.disk l.kind l.ready l.frames l.tail l.ahead l.shut };
 }
 
 impl<D: Disk> TopicLog<D> {
@@ -82,13 +81,12 @@ impl<D: Disk> TopicLog<D> {
         let mut disk = disk;
         let kind = kind_number(name);
         match opened(alloc, &mut disk, kind) {
-            Ok(found) => Ok(TopicLog {
+            Ok(frames) => Ok(TopicLog {
                 alloc,
                 disk,
                 kind,
                 limit,
-                places: found.places,
-                gate: found.gate,
+                frames,
                 tail: Vec::new(alloc),
                 ahead: None,
                 ready: 0,
@@ -113,10 +111,10 @@ impl<D: Disk> TopicLog<D> {
         }
         self.tail.clear();
         self.tail.reserve(body.saturating_add(5))?;
-        self.places.reserve(1)?;
+        self.frames.reserve()?;
         prepare(
             &mut self.disk,
-            (self.gate + 1).saturating_add((body as u64).saturating_add(5)),
+            (self.frames.gate + 1).saturating_add((body as u64).saturating_add(5)),
         )?;
         self.ready = body as u64;
         Ok(())
@@ -158,14 +156,14 @@ impl<D: Disk> TopicLog<D> {
         if self.shut {
             return Err(AppendFault::Shut);
         }
-        let length = self.gate + 1;
+        let length = self.frames.gate + 1;
         let frame = body.len() as u64 + 5;
         if self.limit < length || self.limit - length < frame {
             return Err(AppendFault::Full { length, frame });
         }
         self.reserve(body.len())?;
         self.add(body)?;
-        Ok(self.places.len() as u64 - 1)
+        Ok(self.frames.count() - 1)
     }
 
     /// How many bodies there are.
@@ -174,7 +172,7 @@ impl<D: Disk> TopicLog<D> {
         ensures count { result ≡ self.now.count }
         ensures list { (bodies : List (List ℕ)) → self.now.bodies ≡ Some bodies → result ≡ length bodies }
     {
-        self.places.len() as u64
+        self.frames.count()
     }
 
     /// How many bytes there are, up to and with the closed gate.
@@ -183,7 +181,7 @@ impl<D: Disk> TopicLog<D> {
         ensures length { result ≡ self.now.length }
         ensures list { (bodies : List (List ℕ)) → self.now.bodies ≡ Some bodies → result ≡ length_of bodies }
     {
-        self.gate + 1
+        self.frames.gate + 1
     }
 
     /// The body of this number, which is below the count.
@@ -215,7 +213,7 @@ impl<D: Disk> TopicLog<D> {
         ensures same { HasSameList self.old self.new }
         ensures reads { Reads D.holds D.may_leave D.moment D.left_since D.count D.reserved self.old.disk self.new.disk }
     {
-        let place = self.places[index as usize];
+        let place = self.frames.get(index);
         match read_ahead(
             self.alloc,
             &mut self.ahead,
@@ -282,15 +280,14 @@ impl<D: Disk> TopicLog<D> {
         ensures later { D.count self.old.disk ≤ D.count self.new.disk }
         ensures cause { OnErr result (Rose (D.count self.old.disk) (D.count self.new.disk)) }
     {
-        let gate = self.gate;
+        let gate = self.frames.gate;
         let length = body.len() as u64;
         self.shut = true;
         self.ready = 0;
         self.ahead = None;
         match write_frame(&mut self.disk, gate, &mut self.tail, body) {
             Ok(()) => {
-                push_place(&mut self.places, Place { at: gate, length });
-                self.gate = gate + (length + 5);
+                self.frames.push(length);
                 self.shut = false;
                 Ok(())
             }

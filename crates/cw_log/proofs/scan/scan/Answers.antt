@@ -1,8 +1,9 @@
-use Rattle.std.proofs.Common.{◌+◌, ◌-◌, List, drop, refl, sym, ◌∙◌, subst, arith}
+use Rattle.std.proofs.Common.{ℕ, ◌+◌, ◌-◌, List, drop, refl, sym, ◌∙◌, ap, subst, arith}
 use Rattle.cw_log.specs.declared.place.Frame.{Frame}
 use Rattle.cw_log.specs.declared.place.Place.{Place}
-use Rattle.cw_log.specs.Log.{IsFrame, EndsWithin, Begins}
+use Rattle.cw_log.specs.Log.{IsFrame, EndsWithin, Begins, places_before}
 use Rattle.cw_log.proofs.Gates.{reads_none, reads_then}
+use Rattle.cw_log.proofs.Starts.{places_before-push}
 use Rattle.cw_log.proofs.Frames.{begins_start, begins_next, breaks}
 use Rattle.cw_log.proofs.scan.scan.Goals as goal
 
@@ -11,7 +12,7 @@ frames-init g c = record {
   reads = reads_none g.D.Disk.holds g.D.Disk.may_leave g.D.Disk.moment g.D.Disk.left_since g.D.Disk.count g.D.Disk.reserved g.met.D.Disk.counts_now c.args.disk.now;
   window = λ file is. c.in_ok-window.ensures.window file;
   within = c.in_ok-window.ensures.within;
-  begins = λ file is. subst (λ (l : List Place). Begins 16 l file) (sym c.new-places.ensures.items) (begins_start file (omega (arith, c.requires.size file is, c.requires.long)));
+  begins = λ file is. subst (λ (l : List ℕ). Begins 16 (places_before 16 l) file) (sym c.new-starts.ensures.items) (begins_start file (omega (arith, c.requires.size file is, c.requires.long)));
   low = omega arith;
   high = c.requires.long;
 }
@@ -25,7 +26,7 @@ returns-in-Closed-clause-found g c file is =
 
 pub returns-in-Broken-clause-cause : goal.returns-in-Broken-clause-cause
 returns-in-Broken-clause-cause g c =
-    (refl, λ file is. breaks c.frames.at c.frames.places.items file (c.frames.invariant.begins file is) (subst (λ (frame : Frame). IsFrame frame (drop c.frames.at file)) c.in-Broken.is (c.in_ok-frame_at.ensures.frame file (c.frames.invariant.reads.same ∙ is))))
+    (refl, λ file is. breaks c.frames.at (places_before c.frames.at c.frames.starts.items) file (c.frames.invariant.begins file is) (subst (λ (frame : Frame). IsFrame frame (drop c.frames.at file)) c.in-Broken.is (c.in_ok-frame_at.ensures.frame file (c.frames.invariant.reads.same ∙ is))))
 
 pub frames-preserved : goal.frames-preserved
 frames-preserved g c =
@@ -34,8 +35,8 @@ frames-preserved g c =
       reads = reads_then g.D.Disk.holds g.D.Disk.may_leave g.D.Disk.moment g.D.Disk.left_since g.D.Disk.count g.D.Disk.reserved g.met.D.Disk.counts_now c.args.disk.now c.frames.disk c.frame_at.new.disk c.frames.invariant.reads c.frame_at.ensures.reads;
       window = λ file is. c.frame_at.ensures.window file (c.frames.invariant.reads.same ∙ is);
       within = c.frame_at.ensures.within;
-      begins = λ file is. subst (λ (l : List Place). Begins (c.frames.at + (5 + c.in-Open.length)) l file) (sym c.in_ok-push-in-Open.ensures.items)
-          (begins_next c.frames.at c.in-Open.length c.frames.places.items file (c.frames.invariant.begins file is) (subst (λ (frame : Frame). IsFrame frame (drop c.frames.at file)) c.in-Open.is (c.in_ok-frame_at.ensures.frame file (c.frames.invariant.reads.same ∙ is))));
+      begins = λ file is. subst (λ (l : List Place). Begins (c.frames.at + (5 + c.in-Open.length)) l file) (sym (ap (places_before (c.frames.at + (5 + c.in-Open.length))) c.in_ok-push-in-Open.ensures.items ∙ places_before-push c.frames.at c.in-Open.length (c.frames.at + (5 + c.in-Open.length)) c.frames.starts.items (omega arith)))
+          (begins_next c.frames.at c.in-Open.length (places_before c.frames.at c.frames.starts.items) file (c.frames.invariant.begins file is) (subst (λ (frame : Frame). IsFrame frame (drop c.frames.at file)) c.in-Open.is (c.in_ok-frame_at.ensures.frame file (c.frames.invariant.reads.same ∙ is))));
       low = omega (arith, c.frames.invariant.low);
       high = omega (arith, ends, c.frames.invariant.high);
     }

@@ -1,5 +1,5 @@
 use Rattle.std.proofs.Common.{ℕ, ap, subst, option_map, arith}
-use Rattle.cw_log.specs.Log.{StandsFor, bodies_at, kind_of}
+use Rattle.cw_log.specs.Log.{StandsFor, bodies_at, kind_of, places_of}
 use Rattle.cw_disk.specs.Disk.{Adds}
 use Rattle.cw_disk.proofs.Moments.{adds_left}
 use Rattle.cw_log.specs.Log.{StandAlike}
@@ -18,9 +18,9 @@ invariant_of-result g c = record {
 pub returns-in-Ok-clause-list : goal.returns-in-Ok-clause-list
 returns-in-Ok-clause-list g c file is =
     let opens = c.in-Ok.ensures.list file is in (
-      bodies_at c.in-Ok.found.places.items opens.new,
-      ap (option_map (bodies_at c.in-Ok.found.places.items)) opens.told,
-      subst (λ (kind : ℕ). StandsFor kind (bodies_at c.in-Ok.found.places.items opens.new) file) c.kind_number-kind.ensures opens.stands,
+      bodies_at (places_of c.in-Ok.frames) opens.new,
+      ap (option_map (bodies_at (places_of c.in-Ok.frames))) opens.told,
+      subst (λ (kind : ℕ). StandsFor kind (bodies_at (places_of c.in-Ok.frames) opens.new) file) c.kind_number-kind.ensures opens.stands,
     )
 
 pub returns-in-Ok-clause-left : goal.returns-in-Ok-clause-left
