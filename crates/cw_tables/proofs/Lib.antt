@@ -5,3 +5,4 @@ pub mod Placed
 pub mod Widened
 pub mod LentLemmas
 pub mod ShelfLemmas
+pub mod Homes

@@ -16,29 +16,29 @@ false_by false never = refl
 -- no place has both a number and another
 not_both : {V : Type 0} (number : ℕ) (slot : Slot V) → has_number number slot ≡ true → is_other number slot ≡ true → ⊥
 not_both number Empty has other = cc
-not_both number (Row own value) has other = both (nat_eq own number) has other
+not_both number (Row value own) has other = both (nat_eq own number) has other
   where
     both : (b : Bool) → b ≡ true → not b ≡ true → ⊥
     both true having lacks = cc
     both false having lacks = cc
 
 -- a number that is another than what stands there is another than what takes its place
-other_still : {V : Type 0} (m number : ℕ) (value : V) (slot : Slot V) → is_other m slot ≡ true → is_other number slot ≡ false → is_other m (Row number value) ≡ true
+other_still : {V : Type 0} (m number : ℕ) (value : V) (slot : Slot V) → is_other m slot ≡ true → is_other number slot ≡ false → is_other m (Row value number) ≡ true
 other_still m number value Empty other here = cc
-other_still m number value (Row own old) other here = grind (arith, nat_tests)
+other_still m number value (Row old own) other here = grind (arith, nat_tests)
 
 -- where a look-up ends stands no number but its own
 unlisted_here : {V : Type 0} (q number : ℕ) (slot : Slot V) → nat_eq number q ≡ false → is_other number slot ≡ false → has_number q slot ≡ false
 unlisted_here q number Empty apart here = refl
-unlisted_here q number (Row own old) apart here = grind (arith, nat_tests)
+unlisted_here q number (Row old own) apart here = grind (arith, nat_tests)
 
 -- a row of a number is none of another
-pub own_number : {V : Type 0} (number : ℕ) (value : V) → is_other number (Row number value) ≡ false
+pub own_number : {V : Type 0} (number : ℕ) (value : V) → is_other number (Row value number) ≡ false
 own_number number value = grind (arith, nat_tests)
 
-module _ {V : Type 0} (slots : List (Slot V)) (shift number at : ℕ) (all : AllReached slots shift) (place : IsPlaceOf slots shift number at) where
+module _ {V : Type 0} (slots : List (Slot V)) (homes number at : ℕ) (all : AllReached slots homes) (place : IsPlaceOf slots homes number at) where
   -- a second place would be reached only past the first, which is no other number
-  by_order : (k : ℕ) → k ≢ at → has_number number (slot_at slots k) ≡ true → IsReached slots shift number k → (k ≡ at) ⊎ ((k < at) ⊎ (at < k)) → ⊥
+  by_order : (k : ℕ) → k ≢ at → has_number number (slot_at slots k) ≡ true → IsReached slots homes number k → (k ≡ at) ⊎ ((k < at) ⊎ (at < k)) → ⊥
   by_order k apart has own order =
       elim order [
         | inl same ↦ apart same
@@ -56,37 +56,37 @@ module _ {V : Type 0} (slots : List (Slot V)) (shift number at : ℕ) (all : All
   pub listed_here : listed slots number ≡ value_in (slot_at slots at)
   listed_here = listed_at slots number at alone place.here
 
-module _ {V : Type 0} (slots : List (Slot V)) (shift number at : ℕ) (all : AllReached slots shift) (place : IsPlaceOf slots shift number at) (value : V) (low : at < length slots) where
+module _ {V : Type 0} (slots : List (Slot V)) (homes number at : ℕ) (all : AllReached slots homes) (place : IsPlaceOf slots homes number at) (value : V) (low : at < length slots) where
   abbrev after : List (Slot V)
-  after = set slots at (Row number value)
+  after = set slots at (Row value number)
 
   -- what stands there now
-  now_here : slot_at after at ≡ Row number value
-  now_here = get_or-set_same slots at (Row number value) Empty low
+  now_here : slot_at after at ≡ Row value number
+  now_here = get_or-set_same slots at (Row value number) Empty low
 
   -- the other places are as before
   elsewhere : (k : ℕ) → k ≢ at → slot_at after k ≡ slot_at slots k
-  elsewhere k apart = get_or-set_other slots at k (Row number value) Empty apart
+  elsewhere k apart = get_or-set_other slots at k (Row value number) Empty apart
 
   -- the look-up comes to the row
-  place_reached : IsReached after shift number at
+  place_reached : IsReached after homes number at
   place_reached = record {
     from = place.reached.from;
     others = λ k from before. ap (is_other number) (elsewhere k (omega arith)) ∙ place.reached.others k from before;
   }
 
   -- look-ups of other numbers go on past it
-  other_here : (m k : ℕ) → IsReached slots shift m k → home_of m shift ≤ at → at < k → is_other m (slot_at after at) ≡ true
+  other_here : (m k : ℕ) → IsReached slots homes m k → home_of m homes ≤ at → at < k → is_other m (slot_at after at) ≡ true
   other_here m k own from before = ap (is_other m) now_here ∙ other_still m number value (slot_at slots at) (own.others at from before) place.here
 
   -- and come to where they came before
-  still_reached : (m k : ℕ) → IsReached slots shift m k → IsReached after shift m k
+  still_reached : (m k : ℕ) → IsReached slots homes m k → IsReached after homes m k
   still_reached m k own = record {
     from = own.from;
     others = λ j from before. by_place j from before (cases_order j at);
   }
     where
-      by_place : (j : ℕ) → home_of m shift ≤ j → j < k → (j ≡ at) ⊎ ((j < at) ⊎ (at < j)) → is_other m (slot_at after j) ≡ true
+      by_place : (j : ℕ) → home_of m homes ≤ j → j < k → (j ≡ at) ⊎ ((j < at) ⊎ (at < j)) → is_other m (slot_at after j) ≡ true
       by_place j from before order =
           elim order [
             | inl same ↦ ap (λ (p : ℕ). is_other m (slot_at after p)) same ∙ other_here m k own (omega arith) (omega arith)
@@ -97,18 +97,18 @@ module _ {V : Type 0} (slots : List (Slot V)) (shift number at : ℕ) (all : All
           ]
 
   -- each row is reached as before
-  pub reached_set : AllReached after shift
+  pub reached_set : AllReached after homes
   reached_set m k has = by_place (cases_order k at)
     where
-      moved : k ≢ at → IsReached after shift m k
+      moved : k ≢ at → IsReached after homes m k
       moved apart = still_reached m k (all m k (sym (ap (has_number m) (elsewhere k apart)) ∙ has))
 
-      by_place : (k ≡ at) ⊎ ((k < at) ⊎ (at < k)) → IsReached after shift m k
+      by_place : (k ≡ at) ⊎ ((k < at) ⊎ (at < k)) → IsReached after homes m k
       by_place order =
           elim order [
             | inl same ↦
                 let own : number ≡ m = eqb-true number m (sym (ap (has_number m) (ap (slot_at after) same ∙ now_here)) ∙ has) in
-                subst (λ (n : ℕ). IsReached after shift n k) own (subst (λ (p : ℕ). IsReached after shift number p) (sym same) place_reached)
+                subst (λ (n : ℕ). IsReached after homes n k) own (subst (λ (p : ℕ). IsReached after homes number p) (sym same) place_reached)
             | inr rest ↦ elim rest [
               | inl left ↦ moved (omega arith)
               | inr right ↦ moved (omega arith)
@@ -116,7 +116,7 @@ module _ {V : Type 0} (slots : List (Slot V)) (shift number at : ℕ) (all : All
           ]
 
   -- the look-up ends at the row
-  place_set : IsPlaceOf after shift number at
+  place_set : IsPlaceOf after homes number at
   place_set = record {
     reached = place_reached;
     here = ap (is_other number) now_here ∙ own_number number value;
@@ -129,41 +129,41 @@ module _ {V : Type 0} (slots : List (Slot V)) (shift number at : ℕ) (all : All
       by_test : (b : Bool) → nat_eq number q ≡ b → listed after q ≡ cond (nat_eq number q) (Some value) (listed slots q)
       by_test true same =
           ap (listed after) (sym (eqb-true number q same))
-          ∙ listed_here after shift number at reached_set place_set
+          ∙ listed_here after homes number at reached_set place_set
           ∙ ap value_in now_here
           ∙ sym (ap (λ (b : Bool). cond b (Some value) (listed slots q)) same)
       by_test false apart =
-          listed-set_other slots q at (Row number value) apart (unlisted_here q number (slot_at slots at) apart place.here)
+          listed-set_other slots q at (Row value number) apart (unlisted_here q number (slot_at slots at) apart place.here)
           ∙ sym (ap (λ (b : Bool). cond b (Some value) (listed slots q)) apart)
 
-module _ {V : Type 0} (before after : List (Slot V)) (shift : ℕ) (same : (k : ℕ) → slot_at after k ≡ slot_at before k) where
+module _ {V : Type 0} (before after : List (Slot V)) (homes : ℕ) (same : (k : ℕ) → slot_at after k ≡ slot_at before k) where
   -- a place that a look-up comes to
-  reached_one : (m k : ℕ) → IsReached before shift m k → IsReached after shift m k
+  reached_one : (m k : ℕ) → IsReached before homes m k → IsReached after homes m k
   reached_one m k own = record {
     from = own.from;
     others = λ j from low. ap (is_other m) (same j) ∙ own.others j from low;
   }
 
   -- places that say the same are reached the same
-  pub reached_same : AllReached before shift → AllReached after shift
+  pub reached_same : AllReached before homes → AllReached after homes
   reached_same all m k has = reached_one m k (all m k (sym (ap (has_number m) (same k)) ∙ has))
 
   -- and look-ups end where they ended
-  pub place_same : (m k : ℕ) → IsPlaceOf before shift m k → IsPlaceOf after shift m k
+  pub place_same : (m k : ℕ) → IsPlaceOf before homes m k → IsPlaceOf after homes m k
   place_same m k place = record {
     reached = reached_one m k place.reached;
     here = ap (is_other m) (same k) ∙ place.here;
   }
 
 -- a number whose home is free is not listed
-pub unlisted_at_home : {V : Type 0} (slots : List (Slot V)) (shift number : ℕ) → AllReached slots shift → value_in (slot_at slots (home_of number shift)) ≡ None → listed slots number ≡ None
-unlisted_at_home {V} slots shift number all none =
-    let place : IsPlaceOf slots shift number (home_of number shift) = record {
+pub unlisted_at_home : {V : Type 0} (slots : List (Slot V)) (homes number : ℕ) → AllReached slots homes → value_in (slot_at slots (home_of number homes)) ≡ None → listed slots number ≡ None
+unlisted_at_home {V} slots homes number all none =
+    let place : IsPlaceOf slots homes number (home_of number homes) = record {
       reached = record { from = omega arith; others = λ k from before. absurd (omega (arith, from, before)) };
-      here = empty_here number (slot_at slots (home_of number shift)) none;
+      here = empty_here number (slot_at slots (home_of number homes)) none;
     } in
-    listed_here slots shift number (home_of number shift) all place ∙ none
+    listed_here slots homes number (home_of number homes) all place ∙ none
   where
     empty_here : (number : ℕ) (slot : Slot V) → value_in slot ≡ None → is_other number slot ≡ false
     empty_here number Empty none = refl
-    empty_here number (Row own value) none = absurd cc
+    empty_here number (Row value own) none = absurd cc

@@ -11,7 +11,7 @@ use Rattle.cw_tables.specs.Sparse.{listed, slot_at, has_number, is_other, value_
 pub listed_none : {V : Type 0} (slots : List (Slot V)) (number : ℕ) → ((k : ℕ) → has_number number (slot_at slots k) ≡ false) → listed slots number ≡ None
 listed_none [] number none = refl
 listed_none (Empty ∷ slots) number none = listed_none slots number (λ k. none (suc k))
-listed_none {V = V} (Row other value ∷ slots) number none =
+listed_none {V = V} (Row value other ∷ slots) number none =
     ap (λ (b : Bool). cond b (Some value) (listed slots number)) (none 0) ∙ listed_none slots number (λ k. none (suc k))
 
 -- what is not another number is this one
@@ -23,20 +23,20 @@ no_longer false lacks = cc
 pub listed_at : {V : Type 0} (slots : List (Slot V)) (number at : ℕ) → ((k : ℕ) → k ≢ at → has_number number (slot_at slots k) ≡ false) → is_other number (slot_at slots at) ≡ false → listed slots number ≡ value_in (slot_at slots at)
 listed_at [] number at alone here = refl
 listed_at (Empty ∷ slots) number zero alone here = listed_none slots number (λ k. alone (suc k) (omega arith))
-listed_at (Row other value ∷ slots) number zero alone here = ap (λ (b : Bool). cond b (Some value) (listed slots number)) (no_longer (nat_eq other number) here)
+listed_at (Row value other ∷ slots) number zero alone here = ap (λ (b : Bool). cond b (Some value) (listed slots number)) (no_longer (nat_eq other number) here)
 listed_at (Empty ∷ slots) number (suc at) alone here = listed_at slots number at (λ k apart. alone (suc k) (omega arith)) here
-listed_at (Row other value ∷ slots) number (suc at) alone here =
+listed_at (Row value other ∷ slots) number (suc at) alone here =
     ap (λ (b : Bool). cond b (Some value) (listed slots number)) (alone 0 (omega arith)) ∙ listed_at slots number at (λ k apart. alone (suc k) (omega arith)) here
 
 -- a place that has another number lists nothing of this one
 listed-skip : {V : Type 0} (slot : Slot V) (slots : List (Slot V)) (number : ℕ) → has_number number slot ≡ false → listed (slot ∷ slots) number ≡ listed slots number
 listed-skip Empty slots number lacks = refl
-listed-skip (Row other value) slots number lacks = ap (λ (b : Bool). cond b (Some value) (listed slots number)) lacks
+listed-skip (Row value other) slots number lacks = ap (λ (b : Bool). cond b (Some value) (listed slots number)) lacks
 
 -- the same place before lists that agree
 listed-tail : {V : Type 0} (slot : Slot V) (a b : List (Slot V)) (number : ℕ) → listed a number ≡ listed b number → listed (slot ∷ a) number ≡ listed (slot ∷ b) number
 listed-tail Empty a b number same = same
-listed-tail {V = V} (Row other value) a b number same = ap (λ (o : Option V). cond (nat_eq other number) (Some value) o) same
+listed-tail {V = V} (Row value other) a b number same = ap (λ (o : Option V). cond (nat_eq other number) (Some value) o) same
 
 -- a place that is set changes nothing of a number that it never had
 pub listed-set_other : {V : Type 0} (slots : List (Slot V)) (number at : ℕ) (slot : Slot V) → has_number number slot ≡ false → has_number number (slot_at slots at) ≡ false → listed (set slots at slot) number ≡ listed slots number
@@ -68,11 +68,11 @@ apart_by : (m n q : ℕ) → nat_eq m n ≡ false → nat_eq m q ≡ true → na
 apart_by m n q apart first second = grind (arith, nat_tests)
 
 -- one place more, which has a number that none before it has
-pub listed-take_row : {V : Type 0} (slots : List (Slot V)) (i number : ℕ) (value : V) → slot_at slots i ≡ Row number value → ((k : ℕ) → k < i → has_number number (slot_at slots k) ≡ false) → (q : ℕ) → listed (take (suc i) slots) q ≡ cond (nat_eq number q) (Some value) (listed (take i slots) q)
+pub listed-take_row : {V : Type 0} (slots : List (Slot V)) (i number : ℕ) (value : V) → slot_at slots i ≡ Row value number → ((k : ℕ) → k < i → has_number number (slot_at slots k) ≡ false) → (q : ℕ) → listed (take (suc i) slots) q ≡ cond (nat_eq number q) (Some value) (listed (take i slots) q)
 listed-take_row [] i number value here before q = cc
 listed-take_row {V = V} (slot ∷ slots) zero number value here before q = ap (λ (s : Slot V). listed (s ∷ []) q) here
 listed-take_row (Empty ∷ slots) (suc i) number value here before q = listed-take_row slots i number value here (λ k low. before (suc k) (omega arith)) q
-listed-take_row {V = V} (Row other old ∷ slots) (suc i) number value here before q =
+listed-take_row {V = V} (Row old other ∷ slots) (suc i) number value here before q =
     ap (λ (o : Option V). cond (nat_eq other q) (Some old) o) (listed-take_row slots i number value here (λ k low. before (suc k) (omega arith)) q)
     ∙ cond_swap (nat_eq other q) (nat_eq number q) (Some old) (Some value) (listed (take i slots) q) (apart_by other number q (before 0 (omega arith)))
 

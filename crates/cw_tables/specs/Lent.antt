@@ -13,7 +13,7 @@ use Rattle.cw_tables.specs.Sparse.{slot_at}
 -- a place with another value
 abbrev pub with_value : {V : Type 0} → Slot V → V → Slot V
 with_value Empty value = Empty
-with_value (Row number before) value = Row number value
+with_value (Row before number) value = Row value number
 
 -- the place has the last value that was written
 abbrev pub lends_value : (V : RattleType) → MutBor (Slot V.Denot) → Option (MutBor V.Denot) → Fml

@@ -26,7 +26,7 @@ numbers_of (shelf ∷ shelves) (suc at) = numbers_of shelves at
 
 -- which shelf a number has
 abbrev pub place_of : ℕ → ℕ
-place_of number = home_of number 24
+place_of number = home_of number 1024
 
 -- each number is on its own shelf
 abbrev pub ArePlaced : List (Vec ℕ) → Type 0

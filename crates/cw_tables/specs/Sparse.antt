@@ -7,7 +7,7 @@ use Rattle.cw_tables.specs.declared.sparse.Slot.TheVariants.{Empty, Row}
 abbrev pub listed : {V : Type 0} → List (Slot V) → ℕ → Option V
 listed [] number = None
 listed (Empty ∷ slots) number = listed slots number
-listed (Row other value ∷ slots) number = if nat_eq other number then Some value else listed slots number
+listed (Row value other ∷ slots) number = if nat_eq other number then Some value else listed slots number
 
 -- what stands in a place; nothing past the end
 abbrev pub slot_at : {V : Type 0} → List (Slot V) → ℕ → Slot V
@@ -16,32 +16,32 @@ slot_at slots place = slice_index_or slots place Empty
 -- whether a place has the row of this number
 abbrev pub has_number : {V : Type 0} → ℕ → Slot V → Bool
 has_number number Empty = false
-has_number number (Row other value) = nat_eq other number
+has_number number (Row value other) = nat_eq other number
 
 -- whether a place has the row of another number
 abbrev pub is_other : {V : Type 0} → ℕ → Slot V → Bool
 is_other number Empty = false
-is_other number (Row other value) = not (nat_eq other number)
+is_other number (Row value other) = not (nat_eq other number)
 
 -- the value that stands in a place
 abbrev pub value_in : {V : Type 0} → Slot V → Option V
 value_in Empty = None
-value_in (Row number value) = Some value
+value_in (Row value number) = Some value
 
--- the place where a look-up of a number begins: the high bits of a product
+-- the place where a look-up of a number begins: as far among the homes as the number's hash is among all
 unfoldable pub home_of : ℕ → ℕ → ℕ
-home_of number shift = number * 2654435761 % 2 ^ 32 / 2 ^ shift
+home_of number homes = number * 2654435761 % 2 ^ 32 * homes / 2 ^ 32
 
 -- a place that a look-up of a number comes to: from its home on there are rows of other numbers
-pub record IsReached {V : Type 0} (slots : List (Slot V)) (shift number place : ℕ) : Type 0 where
-  pub from : home_of number shift ≤ place
-  pub others : (k : ℕ) → home_of number shift ≤ k → k < place → is_other number (slot_at slots k) ≡ true
+pub record IsReached {V : Type 0} (slots : List (Slot V)) (homes number place : ℕ) : Type 0 where
+  pub from : home_of number homes ≤ place
+  pub others : (k : ℕ) → home_of number homes ≤ k → k < place → is_other number (slot_at slots k) ≡ true
 
 -- each row is reached by a look-up of its number
 abbrev pub AllReached : {V : Type 0} → List (Slot V) → ℕ → Type 0
-AllReached slots shift = (number place : ℕ) → has_number number (slot_at slots place) ≡ true → IsReached slots shift number place
+AllReached slots homes = (number place : ℕ) → has_number number (slot_at slots place) ≡ true → IsReached slots homes number place
 
 -- the place where a look-up of a number ends: its row, or none
-pub record IsPlaceOf {V : Type 0} (slots : List (Slot V)) (shift number place : ℕ) : Type 0 where
-  pub reached : IsReached slots shift number place
+pub record IsPlaceOf {V : Type 0} (slots : List (Slot V)) (homes number place : ℕ) : Type 0 where
+  pub reached : IsReached slots homes number place
   pub here : is_other number (slot_at slots place) ≡ false

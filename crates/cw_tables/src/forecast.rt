@@ -73,12 +73,13 @@ impl Forecast {
         self.now
     }
 
-    // How many rows more a table of so many rows may need. Where the numbers are drawn from a set, as large a share of
+    // How many rows more a table of so many rows may need, now and behind. Where the numbers are drawn from a set, as large a share of
     // those that come is known as the table has of the set, so that it needs no more than the rest of the set. A small
     // sample expects little of it where none is known.
-    pub(crate) fn rows_behind(&self, rows: usize) -> usize {
+    pub(crate) fn rows_to_come(&self, rows: usize) -> usize {
         let rest_of_set = (rows / self.known.saturating_add(1)).saturating_mul(self.new);
-        rest_of_set.min(self.behind).max(self.now)
+        let to_come = self.now.saturating_add(self.behind);
+        rest_of_set.min(to_come).max(self.now)
     }
 }
 

@@ -6,10 +6,14 @@ use std::alloc::AllocError;
 use std::collections::HashMap;
 use std::hash::Hash;
 
-/// What the table says of a key: its row's value, or the one of a missing row.
+/// What the table says of a key: its row's value, or the one of a missing row. Of an empty table nothing is hashed.
+#[tactic(auto, using(crate::proofs::RowLemmas::none_of_empty))]
 pub fn value_at<K: Eq + Hash, V: Copy>(table: &HashMap<K, V>, key: &K, missing: V) -> V
     ensures { result ≡ unwrap_or (get K.eq table.now key.now) missing }
 {
+    if table.is_empty() {
+        return missing;
+    }
     table.get(key).copied().unwrap_or(missing)
 }
 

@@ -186,6 +186,12 @@ impl<V: Copy + Drop> Numbered<V> {
         }
     }
 
+    /// How many rows great numbers have. Nothing but speed and memory depends on it.
+    #[inline]
+    pub fn great_rows(&self) -> usize {
+        self.high.rows()
+    }
+
     /// Whether a number's row is one of a large table, which a processor finds far off in memory. Nothing but speed depends
     /// on it.
     #[inline]

@@ -7,10 +7,7 @@ use crate::sparse::home;
 use std::alloc::{AllocError, Global};
 
 /// How many shelves there are.
-pub const SHELVES: usize = 256;
-
-// The shift of the homes of a table that has a home for each shelf.
-const SHIFT: u32 = 24;
+pub const SHELVES: usize = 1024;
 
 /// Great numbers that wait until something is done with their rows. Those of one shelf have their rows near one another
 /// in a table, so that a processor finds most of them in the memory at hand. A number may wait more than once.
@@ -67,7 +64,7 @@ impl Shelves {
     pub fn beside(&self, number: u32) -> &[u32]
         ensures { result.now ≡ beside self.now number }
     {
-        numbers_of(&self.shelves, home(number, SHIFT))
+        numbers_of(&self.shelves, home(number, SHELVES))
     }
 
     /// Puts a number on its shelf.
@@ -81,7 +78,7 @@ impl Shelves {
         if self.length == usize::MAX {
             return Err(AllocError);
         }
-        let shelf = home(number, SHIFT);
+        let shelf = home(number, SHELVES);
         reach(&mut self.shelves, shelf)?;
         put_on(&mut self.shelves, shelf, number)?;
         self.length += 1;

@@ -7,20 +7,23 @@ ghost use Rattle.std.proofs.Props.{props};
 use crate::forecast::Forecast;
 use std::alloc::{AllocError, Global};
 
-// A table begins with 16 homes.
-const FIRST_SHIFT: u32 = 28;
+// A table begins with so many homes.
+const FIRST_HOMES: usize = 16;
 
-// A table of 2^18 homes takes 3 megabytes or more.
-const LARGE_SHIFT: u32 = 14;
+// There are at most as many homes as there are hashes.
+const MOST_HOMES: usize = 1 << 32;
+
+// A table of so many homes takes 3 megabytes or more.
+const LARGE: usize = 1 << 18;
 
 // Places behind the last home, for rows that find none at theirs: as many as there are homes, but at most these.
 const MARGIN: usize = 1024;
 
-// A place of the table.
+// A place of the table. Where a value is a few bytes, it lies before the number, which needs to be aligned.
 #[derive(Clone, Copy, Drop)]
 pub enum Slot<V> {
     Empty,
-    Row { number: u32, value: V },
+    Row { value: V, number: u32 },
 }
 
 impl<V: Copy + Drop> Slot<V> {
@@ -46,12 +49,12 @@ impl<V: Copy + Drop> Slot<V> {
 #[derive(Drop)]
 pub struct Sparse<V> {
     slots: Vec<Slot<V>>,
-    // a home is a hash shifted by this to the right, so that there are 2^(32 - shift) of them
-    shift: u32,
-    // rows that were put, at most three quarters as many as there are homes
+    // how many homes there are
+    homes: usize,
+    // rows that were put
     rows: usize,
-    ghost shifts: { shift < 32 },
-    ghost reached: { AllReached slots.items shift } by { Prim.hlevel props },
+    ghost few: { homes ≤ 2 ^ 32 },
+    ghost reached: { AllReached slots.items homes } by { Prim.hlevel props },
 }
 
 impl<V: Copy + Drop> Sparse<V> {
@@ -61,7 +64,7 @@ impl<V: Copy + Drop> Sparse<V> {
     {
         Sparse {
             slots: Vec::new(alloc),
-            shift: FIRST_SHIFT,
+            homes: FIRST_HOMES,
             rows: 0,
         }
     }
@@ -85,7 +88,7 @@ impl<V: Copy + Drop> Sparse<V> {
     /// The place where a look-up of a number ends, and its row.
     #[inline]
     pub fn find(&self, number: u32) -> (usize, Option<V>)
-        ensures place { IsPlaceOf self.now.slots.items self.now.shift number result.0 }
+        ensures place { IsPlaceOf self.now.slots.items self.now.homes number result.0 }
         ensures within { result.0 < 2 ^ 63 }
         ensures row { result.1 ≡ listed self.now.slots.items number }
     {
@@ -96,10 +99,10 @@ impl<V: Copy + Drop> Sparse<V> {
     // Where a look-up of a number ends.
     #[inline]
     fn place_of(&self, number: u32) -> usize
-        ensures place { IsPlaceOf self.now.slots.items self.now.shift number result }
+        ensures place { IsPlaceOf self.now.slots.items self.now.homes number result }
         ensures within { result < 2 ^ 63 }
     {
-        let mut at = home(number, self.shift);
+        let mut at = home(number, self.homes);
         while holds_other(&self.slots, at, number) {
             at += 1;
         }
@@ -136,8 +139,8 @@ impl<V: Copy + Drop> Sparse<V> {
         ensures put { OnOk result ((q : ℕ) → listed self.new.slots.items q ≡ (if nat_eq number q then Some value else listed self.old.slots.items q)) }
         ensures same { OnErr result ((q : ℕ) → listed self.new.slots.items q ≡ listed self.old.slots.items q) }
     {
-        if self.rows >= most_rows(self.shift) {
-            self.grow(0)?;
+        if self.rows >= most_rows(self.homes) {
+            self.grow(self.rows.saturating_mul(2))?;
         }
         self.put(number, value)?;
         self.rows = self.rows.saturating_add(1);
@@ -147,7 +150,7 @@ impl<V: Copy + Drop> Sparse<V> {
     /// Sets the row of a number at the place where a look-up of it ends, or makes it.
     #[inline]
     pub fn set_at(&mut self, at: usize, number: u32, value: V) -> Result<(), AllocError>
-        requires place { IsPlaceOf self.old.slots.items self.old.shift number at }
+        requires place { IsPlaceOf self.old.slots.items self.old.homes number at }
         requires within { at < 2 ^ 63 }
         ensures put { OnOk result ((q : ℕ) → listed self.new.slots.items q ≡ (if nat_eq number q then Some value else listed self.old.slots.items q)) }
         ensures same { OnErr result ((q : ℕ) → listed self.new.slots.items q ≡ listed self.old.slots.items q) }
@@ -155,7 +158,7 @@ impl<V: Copy + Drop> Sparse<V> {
         if value_at(&self.slots, at).is_some() {
             return self.put_at(at, number, value);
         }
-        if self.rows >= most_rows(self.shift) {
+        if self.rows >= most_rows(self.homes) {
             return self.insert(number, value);
         }
         self.put_at(at, number, value)?;
@@ -168,19 +171,25 @@ impl<V: Copy + Drop> Sparse<V> {
     pub fn is_free(&self, number: u32) -> bool
         ensures { result ≡ true → listed self.now.slots.items number ≡ None }
     {
-        is_empty_at(&self.slots, home(number, self.shift))
+        is_empty_at(&self.slots, home(number, self.homes))
+    }
+
+    /// How many rows there are, as far as they were counted. Nothing but speed and memory depends on it.
+    #[inline]
+    pub fn rows(&self) -> usize {
+        self.rows
     }
 
     /// Whether the memory near a processor can't hold the table.
     #[inline]
     pub fn is_large(&self) -> bool {
-        self.shift <= LARGE_SHIFT
+        self.homes >= LARGE
     }
 
     /// Whether the table is to grow before so many rows come.
     #[inline]
     pub fn lacks_room(&self, rows: usize) -> bool {
-        self.rows.saturating_add(rows) > most_rows(self.shift) && !self.is_empty()
+        self.rows.saturating_add(rows) > most_rows(self.homes) && !self.is_empty()
     }
 
     /// Makes room for the new rows that come now, where it has any rows and no room for them; for as many as are
@@ -189,32 +198,32 @@ impl<V: Copy + Drop> Sparse<V> {
         ensures { (q : ℕ) → listed self.new.slots.items q ≡ listed self.old.slots.items q }
     {
         if self.lacks_room(forecast.new_rows()) {
-            self.grow(self.rows.saturating_add(forecast.rows_behind(self.rows)))?;
+            self.grow(self.rows.saturating_add(forecast.rows_to_come(self.rows)))?;
         }
         Ok(())
     }
 
-    // Homes for so many rows, and twice as many as there are at the least, where there can be more.
+    // Homes for so many rows, and a quarter more than there are at the least, where there can be more.
     fn grow(&mut self, rows: usize) -> Result<(), AllocError>
         ensures { (q : ℕ) → listed self.new.slots.items q ≡ listed self.old.slots.items q }
     {
-        if self.shift == 0 {
+        if self.homes >= MOST_HOMES {
             return Ok(());
         }
-        *self = self.widened(shift_for(rows).min(self.shift - 1))?;
+        *self = self.widened(homes_for(rows).max(self.homes / 4 * 5).min(MOST_HOMES))?;
         Ok(())
     }
 
     // The same rows over homes of another number.
-    fn widened(&self, shift: u32) -> Result<Sparse<V>, AllocError>
-        requires { shift < 32 }
+    fn widened(&self, homes: usize) -> Result<Sparse<V>, AllocError>
+        requires { homes ≤ 2 ^ 32 }
         ensures { IfOk result (λ wider. (q : ℕ) → listed wider.slots.items q ≡ listed self.now.slots.items q) }
     {
-        let mut wider = Sparse::empty(*self.slots.allocator(), shift)?;
+        let mut wider = Sparse::empty(*self.slots.allocator(), homes)?;
         for slot in &self.slots {
             match slot {
                 Slot::Empty => continue,
-                Slot::Row { number, value } => wider.put(*number, *value)?,
+                Slot::Row { value, number } => wider.put(*number, *value)?,
             }
         }
         wider.rows = self.rows;
@@ -222,16 +231,15 @@ impl<V: Copy + Drop> Sparse<V> {
     }
 
     // Empty places for each home, and for some behind them.
-    fn empty(alloc: Global, shift: u32) -> Result<Sparse<V>, AllocError>
-        requires { shift < 32 }
+    fn empty(alloc: Global, homes: usize) -> Result<Sparse<V>, AllocError>
+        requires { homes ≤ 2 ^ 32 }
         ensures { IfOk result (λ table. (q : ℕ) → listed table.slots.items q ≡ None) }
     {
-        let homes = 1usize << (32 - shift);
         let mut slots = Vec::new(alloc);
         slots.resize(homes + homes.min(MARGIN), Slot::Empty)?;
         Ok(Sparse {
             slots,
-            shift,
+            homes,
             rows: 0,
         })
     }
@@ -247,41 +255,39 @@ impl<V: Copy + Drop> Sparse<V> {
     // The same at the place where a look-up of the number ends.
     #[inline]
     fn put_at(&mut self, at: usize, number: u32, value: V) -> Result<(), AllocError>
-        requires place { IsPlaceOf self.old.slots.items self.old.shift number at }
+        requires place { IsPlaceOf self.old.slots.items self.old.homes number at }
         requires within { at < 2 ^ 63 }
         ensures put { OnOk result ((q : ℕ) → listed self.new.slots.items q ≡ (if nat_eq number q then Some value else listed self.old.slots.items q)) }
         ensures same { OnErr result ((q : ℕ) → listed self.new.slots.items q ≡ listed self.old.slots.items q) }
     {
         reach(&mut self.slots, at)?;
-        self.slots[at] = Slot::Row { number, value };
+        self.slots[at] = Slot::Row { value, number };
         Ok(())
     }
 }
 
-// The high bits of the number's product with 2^32 over the golden ratio.
+// A number's hash is its product with 2^32 over the golden ratio. Its home is as far among all homes as the hash is among
+// all hashes.
 #[inline]
-#[tactic(auto, unfolding(crate::specs::Sparse::home_of))]
-pub fn home(number: u32, shift: u32) -> usize
-    requires { shift < 32 }
-    ensures home { result ≡ home_of number shift }
+#[tactic(auto, using(crate::proofs::Homes::hash_times, crate::proofs::Homes::home_within), unfolding(crate::specs::Sparse::home_of))]
+pub fn home(number: u32, homes: usize) -> usize
+    requires { homes ≤ 2 ^ 32 }
+    ensures home { result ≡ home_of number homes }
     ensures within { result < 2 ^ 32 }
 {
-    (number.wrapping_mul(0x9E37_79B1) >> shift) as usize
+    let hash = number.wrapping_mul(0x9E37_79B1) as u64;
+    (hash * homes as u64 >> 32) as usize
 }
 
-// How many rows so many homes may have, which keeps a quarter of them free.
+// How many rows so many homes may have: somewhat more than they are made for, since what is expected may not be exact.
 #[inline]
-fn most_rows(shift: u32) -> usize
-    requires { shift < 32 }
-{
-    (1usize << (32 - shift)) / 4 * 3
+fn most_rows(homes: usize) -> usize {
+    homes / 16 * 13
 }
 
-// A shift for which so many rows have homes.
-fn shift_for(rows: usize) -> u32 {
-    (rows.saturating_add(rows / 3) as u64)
-        .leading_zeros()
-        .saturating_sub(32)
+// Homes for so many rows, a quarter of which stay free.
+fn homes_for(rows: usize) -> usize {
+    rows.saturating_add(rows / 3)
 }
 
 // Whether a place has the row of another number.
