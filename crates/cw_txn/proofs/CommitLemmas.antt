@@ -1,10 +1,10 @@
 -- What a changed table of committed transactions says.
-use Rattle.std.proofs.Common.{BuildHasherDefault, FoldHasher, ◌≡◌, ◌≢◌, ◌≤◌, ◌<◌, ◌⊎◌, ℕ, suc, ◌+◌, ◌-◌, ◌==◌, Bool, true, false, ◌&&◌, ◌||◌, cond, List, [], ◌∷◌, ◌++◌, length, get_or, Option, Some, None, IsSome, unwrap_or, is_some, refl, sym, ap, ◌∙◌, arith, inl, inr, length-append, nat_lt}
+use Rattle.std.proofs.Common.{◌≡◌, ◌≢◌, ◌≤◌, ◌<◌, ◌⊎◌, ℕ, suc, ◌+◌, ◌-◌, ◌==◌, Bool, true, false, ◌&&◌, ◌||◌, cond, List, [], ◌∷◌, ◌++◌, length, get_or, Some, None, IsSome, unwrap_or, refl, sym, ap, ◌∙◌, arith, inl, inr, nat_lt}
 use Rattle.std.specs.HashMap.{HashMap, get}
 use Rattle.cw_tables.proofs.RowLemmas.{value-set}
 use Rattle.std.proofs.lemmas.Bool.{cases_lt, cases_order}
 use Rattle.std.proofs.lemmas.Bool.Decides.{nat_tests}
-use Rattle.std.proofs.lemmas.List.{get_or_default, get_or_push, get_or_append_left}
+use Rattle.std.proofs.lemmas.List.{get_or_default}
 use Rattle.std.proofs.lemmas.List.Folds.{list_any_at, list_any-append}
 use Rattle.cw_types.specs.declared.ids.Tag.{Tag}
 use Rattle.cw_types.specs.Same.{same_tag, same_tid, tag_eq}
@@ -76,24 +76,6 @@ module _ (tags : List Tag) (last : Tag) (number : ℕ) (rises : Rises tags) (som
   pub last_above : IsAbove number tags
   last_above i t low = below_last i t low (cases_lt i (length tags - 1))
 
--- one more, above all of them
-module _ (tags : List Tag) (tag : Tag) (rises : Rises tags) (above : IsAbove tag.number tags) where
-  old_at : (i : ℕ) (t : Tag) → i < length tags → (get_or (tags ++ tag ∷ []) i t).number ≡ (get_or tags i t).number
-  old_at i t old = ap (λ (u : Tag). u.number) (get_or_append_left tags (tag ∷ []) t i old)
-
-  new_at : (j : ℕ) (t : Tag) → length tags ≡ j → (get_or (tags ++ tag ∷ []) j t).number ≡ tag.number
-  new_at j t new = ap (λ (u : Tag). u.number) (get_or_push tags tag t j new)
-
-  rises_at : (i j : ℕ) (t : Tag) → i < j → j < length tags + 1 → (j < length tags) ⊎ (length tags ≤ j) → (get_or (tags ++ tag ∷ []) i t).number < (get_or (tags ++ tag ∷ []) j t).number
-  rises_at i j t low within place =
-      elim place [
-        | inl old ↦ omega (arith, rises i j t low old, old_at i t (omega arith), old_at j t old)
-        | inr new ↦ omega (arith, above i t (omega arith), old_at i t (omega arith), new_at j t (omega arith))
-      ]
-
-  pub pushed_rises : Rises (tags ++ tag ∷ [])
-  pushed_rises i j t low within = rises_at i j t low (omega (arith, length-append tags (tag ∷ []))) (cases_lt j (length tags))
-
 or_cond : (a b c : Bool) → ((a || b) || c) ≡ cond b true (a || c)
 or_cond true true c = refl
 or_cond true false c = refl
@@ -139,10 +121,6 @@ pub taken_row : {S : Type 0} (old new : HashMap Tag Bool S) (tag : Tag) → ((q 
     → (q : Tag) → same_tag q tag ≡ false → get tag_eq new q ≡ get tag_eq old q
 taken_row old new tag taken q other = taken q ∙ ap (λ (b : Bool). cond b None (get tag_eq old q)) (tag_eq_is tag q ∙ same_tag-flip tag q ∙ other)
 
--- the key of a row is the one that was asked for
-pub same_key : (tag key : Tag) → tag_eq tag key ≡ true → key ≡ tag
-same_key tag key same = sym ((same_tag-Decides tag key).0 (sym (tag_eq_is tag key) ∙ same))
-
 -- room stays, and what is committed needs none
 pub room_kept : {S : Type 0} (old : Commits) (rising : List Tag) (others : HashMap Tag Bool S) (tag : Tag) → ((q : Tag) → is_in rising others q ≡ cond (same_tag q tag) true (committed_at old q))
     → ((q : Tag) → same_tag q tag ≡ false → IsSome (get tag_eq old.others q) → IsSome (get tag_eq others q)) → (q : Tag) → HasTag old q → IsSome (get tag_eq others q) ⊎ (is_in rising others q ≡ true)
@@ -155,39 +133,6 @@ room_kept old rising others tag set rows q has = by_test (same_tag q tag) refl
           | inl row ↦ inl (rows q other row)
           | inr done ↦ inr (set q ∙ ap (λ (b : Bool). cond b true (committed_at old q)) other ∙ done)
         ]
-
--- what is committed without a row is committed already
-pub done_already : (c : Commits) (tag : Tag) → HasTag c tag → is_some (get tag_eq c.others tag) ≡ false → committed_at c tag ≡ true
-done_already c tag has none =
-    elim has [
-      | inl row ↦ absurd (no_row (get tag_eq c.others tag) row none)
-      | inr done ↦ done
-    ]
-  where
-    no_row : (o : Option Bool) → IsSome o → is_some o ≡ false → ⊥
-    no_row (Some b) row none = cc
-    no_row None row none = cc
-
-pub nothing_new : (c : Commits) (tag : Tag) → committed_at c tag ≡ true → (q : Tag) → committed_at c q ≡ cond (same_tag q tag) true (committed_at c q)
-nothing_new c tag done q = by_test (same_tag q tag) refl
-  where
-    by_test : (b : Bool) → same_tag q tag ≡ b → committed_at c q ≡ cond b true (committed_at c q)
-    by_test true one = ap (committed_at c) ((same_tag-Decides q tag).0 one) ∙ done
-    by_test false other = refl
-
--- where there is no row, nothing is taken, and the transaction is committed already
-pub none_taken : (c : Commits) (new : HashMap Tag Bool (BuildHasherDefault FoldHasher)) (tag : Tag) → ((q : Tag) → get tag_eq new q ≡ cond (tag_eq tag q) None (get tag_eq c.others q)) → HasTag c tag
-    → is_some (get tag_eq c.others tag) ≡ false → (q : Tag) → is_in c.rising.items new q ≡ cond (same_tag q tag) true (committed_at c q)
-none_taken c new tag taken has none q = ap (λ (o : Option Bool). has_tag c.rising.items q || unwrap_or o false) (by_test (same_tag q tag) refl) ∙ nothing_new c tag (done_already c tag has none) q
-  where
-    no_row : (o : Option Bool) → is_some o ≡ false → o ≡ None
-    no_row None none = refl
-    no_row (Some b) none = cc
-
-    by_test : (b : Bool) → same_tag q tag ≡ b → get tag_eq new q ≡ get tag_eq c.others q
-    by_test true one = taken q ∙ ap (λ (b : Bool). cond b None (get tag_eq c.others q)) (tag_eq_is tag q ∙ same_tag-flip tag q ∙ one)
-        ∙ sym (ap (get tag_eq c.others) ((same_tag-Decides q tag).0 one) ∙ no_row (get tag_eq c.others tag) none)
-    by_test false other = taken_row c.others new tag taken q other
 
 -- a step of the search for a place by its number
 module _ (number : ℕ) (tags : List Tag) (low high middle : ℕ) (other : Tag) (rises : Rises tags) (cut : IsCutBetween number tags low high) (from : low ≤ middle) (to : middle < high) (there : other ≡ get_or tags middle other) where

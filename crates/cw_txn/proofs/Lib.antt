@@ -16,3 +16,4 @@ pub mod QueueLemmas
 pub mod Noted
 pub mod Mapped
 pub mod LateLemmas
+pub mod PartLemmas

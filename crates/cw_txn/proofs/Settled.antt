@@ -10,7 +10,7 @@ use Rattle.cw_txn.specs.declared.entry.SetOffset.{SetOffset}
 use Rattle.cw_txn.specs.declared.tables.Tables.{Tables}
 use Rattle.cw_txn.specs.Legal.{IsLegal, Chains, IsLegalBehind, ChainsBehind}
 use Rattle.cw_txn.specs.Transactions.{WithoutFirst}
-use Rattle.cw_txn.specs.PartRows.{HasPart}
+use Rattle.cw_txn.specs.PartRows.{HasPart, CanSet}
 use Rattle.cw_txn.specs.Tables.{Keeps, HasRows, KeepsRows, SameRows, IsFirstAt, IsCoordinator}
 use Rattle.cw_types.proofs.Lists.{cut_at}
 use Rattle.cw_txn.proofs.Walks.{Each-push}
@@ -18,9 +18,9 @@ use Rattle.cw_txn.proofs.Walks.{Each-push}
 pub HasRows-kept : (old new : Tables) → KeepsRows old new → (entry : Entry) → HasRows old entry → HasRows new entry
 HasRows-kept old new keeps (Bump tid) has = keeps.epochs tid has
 HasRows-kept old new keeps (Commit tag generation spans) has =
-    (keeps.committed tag has.0, All-weaker (λ (span : Span). HasPart old.parts span.part) (λ (span : Span). HasPart new.parts span.part) (λ span. keeps.parts span.part) spans has.1)
+    (keeps.committed tag has.0, All-weaker (λ (span : Span). HasPart old.parts span.part) (λ (span : Span). HasPart new.parts span.part) (λ span. keeps.parts.rows span.part) spans has.1)
 HasRows-kept old new keeps (Set tid epoch list) has =
-    All-weaker (λ (set : SetOffset). HasPart old.parts set.part) (λ (set : SetOffset). HasPart new.parts set.part) (λ set. keeps.parts set.part) list has
+    All-weaker (λ (set : SetOffset). CanSet old.parts set.part) (λ (set : SetOffset). CanSet new.parts set.part) (λ set. keeps.parts.settable set.part) list has
 
 module _ (tables : Tables) (entries reserved : List Entry) (count : ℕ) (was : IsCoordinator tables entries reserved count) where
   -- with tables that read as before

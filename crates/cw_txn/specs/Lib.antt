@@ -1,9 +1,11 @@
 pub mod History
 pub mod EpochRows
+pub mod ScriptRows
 pub mod PartRows
 pub mod Legal
 pub mod Allowed
 pub mod Transactions
+pub mod Risen
 pub mod Commits
 pub mod Committed
 pub mod Tables

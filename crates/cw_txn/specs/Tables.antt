@@ -11,7 +11,7 @@ use Rattle.cw_txn.specs.declared.entry.EntryRef.{EntryRef}
 use Rattle.cw_txn.specs.declared.entry.EntryRef.TheVariants.{Bump as BumpRef, Commit as CommitRef, Set as SetRef}
 use Rattle.cw_txn.specs.declared.parts.History.{History}
 use Rattle.cw_txn.specs.EpochRows.{epoch_row, epoch_at}
-use Rattle.cw_txn.specs.PartRows.{history_at, HasPart}
+use Rattle.cw_txn.specs.PartRows.{history_at, HasPart, CanSet, KeepsParts}
 use Rattle.cw_txn.specs.declared.tables.Tables.{Tables}
 use Rattle.cw_txn.specs.Committed.{committed_at, HasTag}
 use Rattle.cw_txn.specs.History.{history, after_entry}
@@ -56,13 +56,13 @@ parts_in connector (e ∷ es) = if is_some e.1.end && is_of connector e.0 then e
 abbrev pub HasRows : Tables → Entry → Type 0
 HasRows tables (Bump tid) = IsSome (epoch_row tables.epochs tid)
 HasRows tables (Commit tag generation spans) = HasTag tables.committed tag × All (λ span. HasPart tables.parts span.part) spans
-HasRows tables (Set tid epoch list) = All (λ set. HasPart tables.parts set.part) list
+HasRows tables (Set tid epoch list) = All (λ set. CanSet tables.parts set.part) list
 
 -- no row was lost
 pub record KeepsRows (old new : Tables) : Type 0 where
   pub epochs : (tid : Tid) → IsSome (epoch_row old.epochs tid) → IsSome (epoch_row new.epochs tid)
   pub committed : (tag : Tag) → HasTag old.committed tag → HasTag new.committed tag
-  pub parts : (part : PartKey) → HasPart old.parts part → HasPart new.parts part
+  pub parts : KeepsParts old.parts new.parts
 
 -- every table reads as before
 pub record SameRows (old new : Tables) : Type 0 where

@@ -5,16 +5,17 @@ ghost use Rattle.cw_types.specs.Same.{same_tag};
 ghost use Rattle.cw_txn.specs.Commits.{Rises, has_tag, IsAbove, IsFirstNotBelow};
 ghost use Rattle.std.proofs.Props.{props};
 
+use crate::risen::Risen;
 use cw_tables::hashed::{has_row, make_row, set_row, take_row, value_at};
 use cw_types::Tag;
 use std::alloc::{AllocError, Global};
 use std::collections::HashMap;
 
 // The committed transactions. Those whose numbers rise, as they do in the order of their making, stand one behind the
-// other; the others have rows of a map, as have those for which room was made.
+// other in few bytes; the others have rows of a map, as have those for which room was made.
 #[derive(Drop)]
 pub struct Commits {
-    rising: Vec<Tag>,
+    rising: Vec<Risen>,
     others: HashMap<Tag, bool>,
     ghost rises: { Rises rising.items } by { Prim.hlevel props },
 }
@@ -50,7 +51,7 @@ impl Commits {
             return false;
         }
         let other = &self.rising[at];
-        is_tag(tag, other)
+        other.is(tag)
     }
 
     // Whether a number is above each of those that rise.
@@ -62,7 +63,7 @@ impl Commits {
             return true;
         }
         let last = &self.rising[count - 1];
-        last.number < number
+        last.number() < number
     }
 
     // Room for a transaction, which reads as before.
@@ -78,31 +79,23 @@ impl Commits {
         make_row(&mut self.others, tag.copy()?, false)
     }
 
-    // Commits a transaction for which there is room.
+    // Commits a transaction for which there is room. A script's leaves its row for a place behind those that rise; a
+    // task's would take memory there, and keeps its row.
     pub fn commit(&mut self, tag: &Tag)
         requires { HasTag self.old tag.now }
         ensures set { (q : Tag) → committed_at self.new q ≡ (if same_tag q tag.now then true else committed_at self.old q) }
         ensures kept { (q : Tag) → HasTag self.old q → HasTag self.new q }
     {
-        if self.is_above(tag.number) && self.rising.len() < self.rising.capacity() {
-            return self.rise(tag);
+        if self.is_above(tag.number)
+            && self.rising.len() < self.rising.capacity()
+            && let Some(risen) = Risen::script(tag)
+        {
+            let _ = take_row(&mut self.others, tag);
+            push_risen(&mut self.rising, risen);
+            return;
         }
         if has_row(&self.others, tag) {
             set_row(&mut self.others, tag, true);
-        }
-    }
-
-    // Takes a transaction out of its row, and puts it behind those that rise.
-    fn rise(&mut self, tag: &Tag)
-        requires above { IsAbove tag.now.number self.old.rising.items }
-        requires room { vec_len self.old.rising < vec_capacity self.old.rising }
-        requires there { HasTag self.old tag.now }
-        ensures set { (q : Tag) → committed_at self.new q ≡ (if same_tag q tag.now then true else committed_at self.old q) }
-        ensures kept { (q : Tag) → HasTag self.old q → HasTag self.new q }
-    {
-        match take_row(&mut self.others, tag) {
-            Some(own) => push_tag(&mut self.rising, own),
-            None => {}
         }
     }
 
@@ -111,7 +104,8 @@ impl Commits {
         ensures { OnOk result ((q : Tag) → committed_at self.new q ≡ (if same_tag q tag then true else committed_at self.old q)) }
     {
         if self.is_above(tag.number) {
-            self.rising.push(tag)?;
+            let risen = Risen::of(*self.rising.allocator(), tag)?;
+            self.rising.push(risen)?;
             return Ok(());
         }
         self.others.insert(tag, true)?;
@@ -120,7 +114,7 @@ impl Commits {
 }
 
 // The first place whose number isn't below this one.
-fn first_not_below(tags: &[Tag], number: u64) -> usize
+fn first_not_below(tags: &[Risen], number: u64) -> usize
     requires { Rises tags.now }
     ensures { IsFirstNotBelow number tags.now result }
 {
@@ -128,7 +122,7 @@ fn first_not_below(tags: &[Tag], number: u64) -> usize
     let mut high = tags.len();
     while low < high {
         let middle = low + (high - low) / 2;
-        if tags[middle].number < number {
+        if tags[middle].number() < number {
             low = middle + 1;
         } else {
             high = middle;
@@ -137,18 +131,75 @@ fn first_not_below(tags: &[Tag], number: u64) -> usize
     low
 }
 
-fn is_tag(a: &Tag, b: &Tag) -> bool
-    ensures { result ≡ same_tag a.now b.now }
+// One more, in the room that is there.
+fn push_risen(rising: &mut Vec<Risen>, risen: Risen)
+    requires { vec_len rising.old < vec_capacity rising.old }
+    ensures { rising.new.items ≡ rising.old.items ++ risen ∷ [] }
 {
-    a == b
-}
-
-// One tag more, in the room that is there.
-fn push_tag(tags: &mut Vec<Tag>, tag: Tag)
-    requires { vec_len tags.old < vec_capacity tags.old }
-    ensures { tags.new.items ≡ tags.old.items ++ tag ∷ [] }
-{
-    let Ok(()) = tags.push(tag) else {
+    let Ok(()) = rising.push(risen) else {
         unreachable!()
     };
+}
+
+#[cfg(test)]
+mod tests {
+    use super::Commits;
+    use cw_types::{Epoch, Name, Tag, TaskId, Tid};
+    use std::alloc::{AllocError, Global};
+    use std::test::Fail;
+
+    // A transaction of one of four producers: 0 and 1 are a script's, 2 and 3 are tasks.
+    fn tag(alloc: Global, producer: u32, epoch: u64, number: u64) -> Result<Tag, Fail> {
+        let tid = if producer < 2 {
+            Tid::Raw(producer)
+        } else {
+            Tid::Task(TaskId {
+                connector: Name::read(alloc, b"a")?,
+                index: producer,
+            })
+        };
+        Ok(Tag {
+            tid,
+            epoch: Epoch(epoch),
+            number,
+        })
+    }
+
+    fn take(commits: &mut Commits, tag: Tag, is_reserved: bool) -> Result<(), AllocError> {
+        if !is_reserved {
+            return commits.put(tag);
+        }
+        commits.make_row(&tag)?;
+        commits.commit(&tag);
+        Ok(())
+    }
+
+    // Whether just this producer's transaction under the number and the epoch 3 is committed.
+    fn is_alone(alloc: Global, commits: &Commits, own: u32, number: u64) -> Result<bool, Fail> {
+        for producer in 0..4 {
+            let asked = tag(alloc, producer, 3, number)?;
+            if commits.contains(&asked) != (producer == own) {
+                return Ok(false);
+            }
+        }
+        let earlier = tag(alloc, own, 2, number)?;
+        Ok(!commits.contains(&earlier))
+    }
+
+    #[test]
+    fn transactions_of_scripts_and_tasks_are_told_apart(rt: HostRuntime) -> Result<(), Fail> {
+        // Who commits and under which number: first some that rise, then some that don't.
+        let table = [(0, 5), (2, 6), (0, 7), (3, 9), (1, 10), (0, 4), (2, 8)];
+        for is_reserved in [false, true] {
+            let mut commits = Commits::new(rt.alloc());
+            for (own, number) in table {
+                assert!(rt; !is_alone(rt.alloc(), &commits, own, number)?);
+                take(&mut commits, tag(rt.alloc(), own, 3, number)?, is_reserved)?;
+            }
+            for (own, number) in table {
+                assert!(rt; is_alone(rt.alloc(), &commits, own, number)?);
+            }
+        }
+        Ok(())
+    }
 }

@@ -63,13 +63,13 @@ impl Epochs {
         self.numbered.make_room(forecast)
     }
 
-    // Raises the epochs of the scripts' producers that wait, each as often as it does. So many times as many may come
-    // behind them.
-    pub fn raise_late(&mut self, late: &Shelves, behind: u64) -> Result<(), AllocError>
+    // Raises the epochs of the scripts' producers that wait, each as often as it does. They took so many bytes of the log,
+    // and so many are left.
+    pub fn raise_late(&mut self, late: &Shelves, taken: u64, left: u64) -> Result<(), AllocError>
         requires { (tid : Tid) → epoch_at self.old tid + late_of late.now tid < 2 ^ 32 }
         ensures { OnOk result ((tid : Tid) → epoch_at self.new tid ≡ epoch_at self.old tid + late_of late.now tid) }
     {
-        make_room(&mut self.numbered, late, behind)?;
+        make_room(&mut self.numbered, late, taken, left)?;
         raise_shelves(&mut self.numbered, late.lists())
     }
 

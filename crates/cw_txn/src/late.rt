@@ -14,9 +14,14 @@ use std::alloc::{AllocError, Global};
 const FEW: usize = 4096;
 
 // Makes room for the numbers that wait, as far as the fullest shelf tells, which is like the others. It is made before any
-// is raised: shelf by shelf, each would fill its part of a table that seems to have room. So many times as many numbers
-// may come behind these.
-pub fn make_room(rows: &mut Numbered<u32>, late: &Shelves, behind: u64) -> Result<(), AllocError>
+// is raised: shelf by shelf, each would fill its part of a table that seems to have room. These took so many bytes of the
+// log, and so many are left.
+pub fn make_room(
+    rows: &mut Numbered<u32>,
+    late: &Shelves,
+    taken: u64,
+    left: u64,
+) -> Result<(), AllocError>
     ensures { (q : ℕ) → numbered_row rows.new q ≡ numbered_row rows.old q }
 {
     if late.len() <= FEW && !rows.lacks_room(&glance_at_all(rows, late.lists())) {
@@ -24,7 +29,7 @@ pub fn make_room(rows: &mut Numbered<u32>, late: &Shelves, behind: u64) -> Resul
     }
     if let Some(sample) = fullest(late.lists()) {
         let mut forecast = forecast_by(rows, sample, late.len());
-        forecast.go_on(1, behind);
+        forecast.go_on(taken, left);
         rows.make_room(&forecast)?;
     }
     Ok(())

@@ -15,6 +15,8 @@ mod epochs;
 mod late;
 mod parts;
 mod replay;
+mod risen;
+mod script_parts;
 mod sought;
 mod tables;
 #[cfg(test)]

@@ -203,6 +203,16 @@ impl Queue {
             self.put_bump(alloc, number, gate)?;
             return Ok(Past::new().and(&Entry::Bump(Tid::Raw(number))));
         }
+        self.take_read(alloc, body, gate)
+    }
+
+    // The same by the readers of fields, whose locals a bump alone needn't wait for.
+    #[inline(never)]
+    fn take_read(&mut self, alloc: Global, body: &[u8], gate: u64) -> Result<Past<Entry>, BodyFault>
+        requires { Walked self.old.walk }
+        ensures read { MatchResult result (λ group. body_at body.now ≡ Some group.items) (λ fault. fault ≢ BodyFault.Memory → body_at body.now ≡ None) }
+        ensures queued { IfOk result (λ group. Queued group.items gate self.old self.new) }
+    {
         let mut from = Reader::new(body);
         let group = self.take_all(alloc, gate, &mut from)?;
         if !from.is_empty() {

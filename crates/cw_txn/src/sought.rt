@@ -65,7 +65,7 @@ fn note_parts(parts: &mut Vec<u32>, spans: &[Span]) -> Result<(), AllocError> {
 }
 
 // So many numbers tell which share of others is new. Where all of a few are, not too much is expected.
-const SAMPLE: usize = 32;
+const SAMPLE: usize = 64;
 
 // Looks for the rows of these numbers, and says whether they may need more room than there is.
 pub fn lack_room<V: Copy + Drop>(rows: &Numbered<V>, numbers: &[u32]) -> bool {

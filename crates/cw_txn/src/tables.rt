@@ -77,7 +77,7 @@ impl Tables {
     // Looks for these rows, and says whether they may need more room than there is.
     pub fn lacks_room(&self, sought: &Sought) -> bool {
         let producers = lack_room(&self.epochs.numbered, sought.producers.as_slice());
-        let parts = lack_room(&self.parts.numbered, sought.parts.as_slice());
+        let parts = lack_room(&self.parts.scripts.rows, sought.parts.as_slice());
         producers || parts
     }
 
@@ -86,7 +86,7 @@ impl Tables {
         let (producers, parts) = (&sought.producers, &sought.parts);
         Forecasts {
             producers: forecast_by(&self.epochs.numbered, producers, producers.len()),
-            parts: forecast_by(&self.parts.numbered, parts, parts.len()),
+            parts: forecast_by(&self.parts.scripts.rows, parts, parts.len()),
         }
     }
 
@@ -163,7 +163,7 @@ impl Tables {
     }
 }
 
-ghost use Rattle.cw_txn.specs.PartRows.{history_at, HasPart};
+ghost use Rattle.cw_txn.specs.PartRows.{history_at, CanSet, HasPart, KeepsParts};
 ghost use Rattle.cw_txn.specs.Tables.{is_of};
 ghost use Rattle.cw_txn.specs.Walk.{IsSpanTest};
 ghost use Rattle.std.specs.Str.{bytes_eq};
@@ -196,7 +196,7 @@ pub fn same_names(a: &Name, b: &Name) -> bool
 
 fn make_span_parts(parts: &mut Parts, spans: &[Span]) -> Result<(), AllocError>
     ensures same { (q : PartKey) → history_at parts.new q ≡ history_at parts.old q }
-    ensures kept { (q : PartKey) → HasPart parts.old q → HasPart parts.new q }
+    ensures kept { KeepsParts parts.old parts.new }
     ensures there { OnOk result (All (λ span. HasPart parts.new span.part) spans.now) }
 {
     for span in spans {
@@ -207,11 +207,11 @@ fn make_span_parts(parts: &mut Parts, spans: &[Span]) -> Result<(), AllocError>
 
 fn make_set_parts(parts: &mut Parts, list: &[SetOffset]) -> Result<(), AllocError>
     ensures same { (q : PartKey) → history_at parts.new q ≡ history_at parts.old q }
-    ensures kept { (q : PartKey) → HasPart parts.old q → HasPart parts.new q }
-    ensures there { OnOk result (All (λ set. HasPart parts.new set.part) list.now) }
+    ensures kept { KeepsParts parts.old parts.new }
+    ensures there { OnOk result (All (λ set. CanSet parts.new set.part) list.now) }
 {
     for set in list {
-        parts.make(&set.part)?;
+        parts.make_settable(&set.part)?;
     }
     Ok(())
 }
@@ -219,7 +219,7 @@ fn make_set_parts(parts: &mut Parts, list: &[SetOffset]) -> Result<(), AllocErro
 fn move_end(parts: &mut Parts, span: &Span)
     requires { HasPart parts.old span.now.part }
     ensures moved { (part : PartKey) → history_at parts.new part ≡ after_span part (history_at parts.old part) span.now }
-    ensures kept { (q : PartKey) → HasPart parts.old q → HasPart parts.new q }
+    ensures kept { KeepsParts parts.old parts.new }
 {
     let _ = parts.move_end(span);
 }
@@ -240,7 +240,7 @@ fn put_ends(parts: &mut Parts, spans: &[Span]) -> Result<bool, AllocError>
 fn move_ends(parts: &mut Parts, spans: &[Span])
     requires { All (λ span. HasPart parts.old span.part) spans.now }
     ensures moved { (part : PartKey) → history_at parts.new part ≡ fold (after_span part) (history_at parts.old part) spans.now }
-    ensures kept { (q : PartKey) → HasPart parts.old q → HasPart parts.new q }
+    ensures kept { KeepsParts parts.old parts.new }
 {
     for span in spans {
         move_end(parts, span);
@@ -248,9 +248,9 @@ fn move_ends(parts: &mut Parts, spans: &[Span])
 }
 
 fn set_history(parts: &mut Parts, set: &SetOffset)
-    requires { HasPart parts.old set.now.part }
+    requires { CanSet parts.old set.now.part }
     ensures moved { (part : PartKey) → history_at parts.new part ≡ after_offset part (history_at parts.old part) set.now }
-    ensures kept { (q : PartKey) → HasPart parts.old q → HasPart parts.new q }
+    ensures kept { KeepsParts parts.old parts.new }
 {
     let history = History {
         base: set.to.unwrap_or(0),
@@ -260,9 +260,9 @@ fn set_history(parts: &mut Parts, set: &SetOffset)
 }
 
 fn set_histories(parts: &mut Parts, list: &[SetOffset])
-    requires { All (λ set. HasPart parts.old set.part) list.now }
+    requires { All (λ set. CanSet parts.old set.part) list.now }
     ensures moved { (part : PartKey) → history_at parts.new part ≡ fold (after_offset part) (history_at parts.old part) list.now }
-    ensures kept { (q : PartKey) → HasPart parts.old q → HasPart parts.new q }
+    ensures kept { KeepsParts parts.old parts.new }
 {
     for set in list {
         set_history(parts, set);

@@ -124,6 +124,24 @@ fn set_offset_is_base_and_end_and_none_begins_anew(rt: HostRuntime) -> Result<()
 }
 
 #[test]
+fn script_part_whose_offset_is_set_keeps_its_base(rt: HostRuntime) -> Result<(), Fail> {
+    let mut txn = Coordinator::new(rt.alloc());
+    assert!(rt; txn.bump(&Tid::Lead) == Ok(Epoch(1)));
+    // (offset that is set, end of the next commit)
+    for (to, next) in [(Some(6), 10), (None, 4), (Some(u64::MAX - 1), u64::MAX)] {
+        let part = PartKey::Raw(3);
+        let from = to.unwrap_or(0);
+        assert!(rt; txn.set(&Tid::Lead, Epoch(1), &[SetOffset { part, to }]) == Ok(()));
+        assert!(rt; txn.end_of(&PartKey::Raw(3)) == to);
+        let number = txn.length();
+        assert!(rt; commit(&rt, &mut txn, &tag(0, 0, number), 0, &[span(3, from, next)]) == Ok(()));
+        assert_eq!(rt; txn.base_of(&PartKey::Raw(3)), from);
+        assert!(rt; txn.end_of(&PartKey::Raw(3)) == Some(next));
+    }
+    Ok(())
+}
+
+#[test]
 fn sixteen_parts_are_committed_at_once_and_none_twice(rt: HostRuntime) -> Result<(), Fail> {
     let mut txn = Coordinator::new(rt.alloc());
     let mut spans = Vec::new(rt.alloc());

@@ -17,11 +17,14 @@ use cw_tables::Shelves;
 use cw_types::{Past, Tid};
 use std::alloc::{AllocError, Global};
 
+// As many bumps wait as the table has rows, but so many at the least.
+const FEW_LATE: usize = 1 << 20;
+
 // So many bumps wait at most.
-const MOST_LATE: usize = 1 << 20;
+const MOST_LATE: usize = 1 << 22;
 
 // So many looks at the bumps that wait take no longer than one of them will.
-const LOOKS_A_BUMP: usize = 32;
+const LOOKS_A_BUMP: usize = 8;
 
 // The entries so far and the gate of each, which are ghost data, and what was found in them: their number, the gate of
 // the first that isn't allowed and of the first that doesn't chain, and the tables as long as all are allowed. These lag
@@ -78,12 +81,19 @@ impl Walk {
         !self.late.is_empty() || self.tables.epochs.numbered.is_far(number)
     }
 
+    // How many bumps wait at most. Nothing but speed and memory depends on it.
+    #[inline]
+    fn most_late(&self) -> usize {
+        let rows = self.tables.epochs.numbered.great_rows();
+        rows.max(FEW_LATE).min(MOST_LATE)
+    }
+
     // A bump more of a script's producer, which waits.
     pub fn put_off(&mut self, number: u32, gate: u64) -> Result<(), AllocError>
         requires { Walked self.old }
         ensures { OnOk result (Took (Entry.Bump (Tid.Raw number) ∷ []) gate self.old self.new) }
     {
-        if self.late.len() >= MOST_LATE {
+        if self.late.len() >= self.most_late() {
             self.settle(gate)?;
         }
         self.put_late(number, gate)
@@ -120,8 +130,9 @@ impl Walk {
         ensures { OnOk result (IsSettled self.old self.new) }
     {
         if self.not_allowed.is_none() {
-            let behind = times_behind(self.settled, gate, self.size);
-            self.tables.epochs.raise_late(&self.late, behind)?;
+            let taken = gate.saturating_sub(self.settled);
+            let left = self.size.saturating_sub(gate);
+            self.tables.epochs.raise_late(&self.late, taken, left)?;
         }
         self.late.clear();
         self.settled = gate;
@@ -248,13 +259,6 @@ fn looks_for_producer(late: &Shelves, tid: &Tid) -> usize {
         Tid::Raw(number) => late.beside(*number).len(),
         _ => 0,
     }
-}
-
-// How often as many bytes come behind this gate as between it and an earlier one.
-fn times_behind(earlier: u64, gate: u64, size: u64) -> u64 {
-    size.saturating_sub(gate)
-        .checked_div(gate.saturating_sub(earlier))
-        .unwrap_or(0)
 }
 
 // The gate of the first entry at which a part doesn't chain, with one entry more, at which every part does or one doesn't.

@@ -2,18 +2,19 @@ use Rattle.std.proofs.Common.{◌∙◌, ◌<◌, All, subst, arith, length}
 use Rattle.std.proofs.lemmas.List.Elements.{All-more, All-weaker}
 use Rattle.std.proofs.lemmas.List.{take_all}
 use Rattle.cw_txn.specs.declared.entry.SetOffset.{SetOffset}
-use Rattle.cw_txn.specs.PartRows.{HasPart}
+use Rattle.cw_txn.specs.PartRows.{CanSet}
+use Rattle.cw_txn.proofs.PartLemmas.{keeps_parts-then}
 use Rattle.cw_txn.proofs.tables.make_set_parts.Goals as goal
 
 pub loop-set-preserved : goal.loop-set-preserved
 loop-set-preserved c =
     let within : c.loop-set.set-index < length c.args.list.now = c.loop-set-test.true in (
-      λ q. c.make.ensures.same q ∙ c.loop-set.invariant.0 q,
-      λ q had. c.make.ensures.kept q (c.loop-set.invariant.1 q had),
-      All-more (λ (set : SetOffset). HasPart c.make.new.self set.part) c.args.list.now c.loop-set.set-index c.set-item.result within
-          (All-weaker (λ (set : SetOffset). HasPart c.loop-set.parts set.part) (λ (set : SetOffset). HasPart c.make.new.self set.part) (λ set. c.make.ensures.kept set.part) _ c.loop-set.invariant.2)
-          (subst (λ (set : SetOffset). HasPart c.make.new.self set.part) c.set-item.is c.in_ok-make.ensures.there),
+      λ q. c.make_settable.ensures.same q ∙ c.loop-set.invariant.0 q,
+      keeps_parts-then _ _ _ c.loop-set.invariant.1 c.make_settable.ensures.kept,
+      All-more (λ (set : SetOffset). CanSet c.make_settable.new.self set.part) c.args.list.now c.loop-set.set-index c.set-item.result within
+          (All-weaker (λ (set : SetOffset). CanSet c.loop-set.parts set.part) (λ (set : SetOffset). CanSet c.make_settable.new.self set.part) (λ set. c.make_settable.ensures.kept.settable set.part) _ c.loop-set.invariant.2)
+          (subst (λ (set : SetOffset). CanSet c.make_settable.new.self set.part) c.set-item.is c.in_ok-make_settable.ensures.there),
     )
 
 pub returns-clause-there : goal.returns-clause-there
-returns-clause-there c = subst (All (λ (set : SetOffset). HasPart c.loop-set.parts set.part)) (take_all c.loop-set.set-index c.args.list.now (omega arith)) c.loop-set.invariant.2
+returns-clause-there c = subst (All (λ (set : SetOffset). CanSet c.loop-set.parts set.part)) (take_all c.loop-set.set-index c.args.list.now (omega arith)) c.loop-set.invariant.2

@@ -3,15 +3,16 @@ use Rattle.std.proofs.lemmas.List.Elements.{All-more, All-weaker}
 use Rattle.std.proofs.lemmas.List.{take_all}
 use Rattle.cw_types.specs.declared.ids.Span.{Span}
 use Rattle.cw_txn.specs.PartRows.{HasPart}
+use Rattle.cw_txn.proofs.PartLemmas.{keeps_parts-then}
 use Rattle.cw_txn.proofs.tables.make_span_parts.Goals as goal
 
 pub loop-span-preserved : goal.loop-span-preserved
 loop-span-preserved c =
     let within : c.loop-span.span-index < length c.args.spans.now = c.loop-span-test.true in (
       λ q. c.make.ensures.same q ∙ c.loop-span.invariant.0 q,
-      λ q had. c.make.ensures.kept q (c.loop-span.invariant.1 q had),
+      keeps_parts-then _ _ _ c.loop-span.invariant.1 c.make.ensures.kept,
       All-more (λ (span : Span). HasPart c.make.new.self span.part) c.args.spans.now c.loop-span.span-index c.span-item.result within
-          (All-weaker (λ (span : Span). HasPart c.loop-span.parts span.part) (λ (span : Span). HasPart c.make.new.self span.part) (λ span. c.make.ensures.kept span.part) _ c.loop-span.invariant.2)
+          (All-weaker (λ (span : Span). HasPart c.loop-span.parts span.part) (λ (span : Span). HasPart c.make.new.self span.part) (λ span. c.make.ensures.kept.rows span.part) _ c.loop-span.invariant.2)
           (subst (λ (span : Span). HasPart c.make.new.self span.part) c.span-item.is c.in_ok-make.ensures.there),
     )
 

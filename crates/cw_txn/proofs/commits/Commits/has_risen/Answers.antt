@@ -15,4 +15,4 @@ returns-then-at-len c =
 pub returns : goal.returns
 returns c =
     let first = subst (λ (l : List Tag). IsFirstNotBelow c.args.tag.now.number l c.first_not_below-at.result) c.deref.ensures.value c.first_not_below-at.ensures in
-    c.is_tag.ensures ∙ sym (found_at c.args.self.now.rising.items c.args.tag.now c.first_not_below-at.result c.args.self.now.rises first c.index-other.result.now (omega arith) c.index-other.ensures)
+    c.is.ensures ∙ sym (found_at c.args.self.now.rising.items c.args.tag.now c.first_not_below-at.result c.args.self.now.rises first c.index-other.result.now (omega arith) c.index-other.ensures)

@@ -4,7 +4,7 @@ use Rattle.cw_types.specs.declared.ids.Span.{Span}
 use Rattle.cw_txn.specs.declared.entry.Entry.{Entry}
 use Rattle.cw_txn.specs.declared.entry.SetOffset.{SetOffset}
 use Rattle.cw_txn.specs.History.{after_span}
-use Rattle.cw_txn.specs.PartRows.{HasPart, history_at}
+use Rattle.cw_txn.specs.PartRows.{HasPart, CanSet, history_at}
 use Rattle.cw_txn.specs.Tables.{Adds, HasRows}
 use Rattle.cw_txn.proofs.Kept.{adds_bump, adds_commit}
 use Rattle.cw_tables.proofs.RowLemmas.{value-moved}
@@ -23,7 +23,7 @@ move_ends-requires c =
 pub set_histories-requires : goal.set_histories-requires
 set_histories-requires c =
     let rows = subst (λ (e : Entry). HasRows c.args.self.now e) c.in-Set.is c.requires.rows in
-    subst (All (λ (set : SetOffset). HasPart c.args.self.now.parts set.part)) (sym c.as_slice-in-Set.ensures) rows
+    subst (All (λ (set : SetOffset). CanSet c.args.self.now.parts set.part)) (sym c.as_slice-in-Set.ensures) rows
 
 pub returns-in-Bump-clause-adds : goal.returns-in-Bump-clause-adds
 returns-in-Bump-clause-adds c =

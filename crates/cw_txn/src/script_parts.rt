@@ -1,0 +1,173 @@
+//! The histories of scripts' parts, which are found by their numbers alone.
+ghost use Rattle.std.specs.Prelude.{◌≡◌, ◌&&◌, ℕ, nat_eq, false, IfOk, OnOk, IsSome, Some, None, is_some, unwrap_or, if◌then◌else◌};
+ghost use Rattle.std.specs.HashMap.{get};
+ghost use Rattle.cw_types.specs.declared.ids.PartKey.{PartKey};
+ghost use Rattle.cw_types.specs.Same.{part_eq};
+ghost use Rattle.cw_txn.specs.History.{unset};
+ghost use Rattle.cw_txn.specs.ScriptRows.{short_history};
+
+use crate::parts::{History, make_named, move_name};
+use cw_tables::hashed::{set_row, value_at};
+use cw_tables::{Forecast, Numbered};
+use cw_types::PartKey;
+use std::alloc::{AllocError, Global};
+use std::collections::HashMap;
+
+// What is committed of a script's part, in nine bytes, so that a row of a table takes sixteen.
+#[derive(Clone, Copy, Drop)]
+pub enum Short {
+    // Nothing.
+    Unset,
+    // Its offsets begin at 0, and its last commit ended at the number of these bytes, which need not be aligned.
+    Ended([u8; 8]),
+    // Its offsets were set, which no script does. What is committed of it stands elsewhere.
+    Elsewhere,
+}
+
+impl Short {
+    // A history that ended here.
+    fn ended(to: u64) -> Short
+        ensures { short_history result None ≡ record { base = 0; end = Some to } }
+    {
+        Short::Ended(to.to_be_bytes())
+    }
+
+    // The history, where none stands elsewhere.
+    fn alone(self) -> History
+        ensures { result ≡ short_history self None }
+    {
+        match self {
+            Short::Ended(end) => History {
+                base: 0,
+                end: Some(u64::from_be_bytes(end)),
+            },
+            Short::Unset => History::UNSET,
+            Short::Elsewhere => History::UNSET,
+        }
+    }
+}
+
+// The history of each part of a script.
+#[derive(Drop)]
+pub struct ScriptParts {
+    pub rows: Numbered<Short>,
+    whole: HashMap<PartKey, History>,
+}
+
+impl ScriptParts {
+    ghost use Rattle.cw_txn.specs.ScriptRows.{IsSettable, KeepsScripts, script_row};
+
+    pub fn new(alloc: Global) -> ScriptParts
+        ensures { (n : ℕ) → script_row result n ≡ None }
+    {
+        ScriptParts {
+            rows: Numbered::new(alloc),
+            whole: HashMap::new(alloc),
+        }
+    }
+
+    #[inline]
+    pub fn get(&self, number: u32) -> Option<History>
+        ensures { result ≡ script_row self.now number }
+    {
+        match self.rows.get(number) {
+            None => None,
+            Some(row) => Some(history_of(row, &self.whole, number)),
+        }
+    }
+
+    // Makes room for the parts of a forecast, or for some of them. The table is as before.
+    pub fn make_room(&mut self, forecast: &Forecast) -> Result<(), AllocError>
+        ensures { (n : ℕ) → script_row self.new n ≡ script_row self.old n }
+    {
+        self.rows.make_room(forecast)
+    }
+
+    // A row for a part. The table reads as before.
+    pub fn make(&mut self, number: u32) -> Result<(), AllocError>
+        ensures same { (n : ℕ) → unwrap_or (script_row self.new n) unset ≡ unwrap_or (script_row self.old n) unset }
+        ensures kept { KeepsScripts self.old self.new }
+        ensures there { OnOk result (IsSome (script_row self.new number)) }
+    {
+        self.rows.make(number, Short::Unset)
+    }
+
+    // A row for a part whose offsets can be set then without memory. The table reads as before.
+    pub fn make_settable(&mut self, number: u32) -> Result<(), AllocError>
+        ensures same { (n : ℕ) → unwrap_or (script_row self.new n) unset ≡ unwrap_or (script_row self.old n) unset }
+        ensures kept { KeepsScripts self.old self.new }
+        ensures there { OnOk result (IsSettable self.new number) }
+    {
+        self.rows.make(number, Short::Unset)?;
+        make_named(&mut self.whole, &PartKey::Raw(number))
+    }
+
+    // Sets the history of a part for which that takes no memory.
+    pub fn set(&mut self, number: u32, history: History)
+        requires { IsSettable self.old number }
+        ensures set { (n : ℕ) → script_row self.new n ≡ (if nat_eq number n then Some history else script_row self.old n) }
+        ensures kept { KeepsScripts self.old self.new }
+    {
+        set_row(&mut self.whole, &PartKey::Raw(number), history);
+        self.rows.set(number, Short::Elsewhere);
+    }
+
+    // Moves the end of a part that has a row, and gives what the row was.
+    pub fn move_end(&mut self, number: u32, to: u64) -> Option<History>
+        ensures before { result ≡ script_row self.old number }
+        ensures moved { (n : ℕ) → script_row self.new n ≡ (if is_some result && nat_eq number n then Some (record { base = (unwrap_or (script_row self.old number) unset).base; end = Some to }) else script_row self.old n) }
+        ensures kept { KeepsScripts self.old self.new }
+    {
+        match self.rows.get_mut(number) {
+            Some(row) => Some(move_short(row, &mut self.whole, number, to)),
+            None => None,
+        }
+    }
+
+    // Moves the end of a part, in its row or in a new one, and gives its history as it was.
+    #[inline]
+    pub fn put_end(&mut self, number: u32, to: u64) -> Result<History, AllocError>
+        ensures before { IfOk result (λ before. before ≡ unwrap_or (script_row self.old number) unset) }
+        ensures moved { OnOk result ((n : ℕ) → unwrap_or (script_row self.new n) unset ≡ (if nat_eq number n then record { base = (unwrap_or (script_row self.old number) unset).base; end = Some to } else unwrap_or (script_row self.old n) unset)) }
+    {
+        let (place, row) = self.rows.find(number);
+        let mut row = row.unwrap_or(Short::Unset);
+        let before = move_short(&mut row, &mut self.whole, number, to);
+        self.rows.set_at(place, number, row, Short::Unset)?;
+        Ok(before)
+    }
+}
+
+#[inline]
+fn history_of(row: Short, whole: &HashMap<PartKey, History>, number: u32) -> History
+    ensures { result ≡ short_history row (get part_eq whole.now (PartKey.Raw number)) }
+{
+    match row {
+        Short::Unset => row.alone(),
+        Short::Ended(_) => row.alone(),
+        Short::Elsewhere => value_at(whole, &PartKey::Raw(number), History::UNSET),
+    }
+}
+
+// Moves the end where it stands, and gives the history as it was.
+#[inline]
+fn move_short(
+    row: &mut Short,
+    whole: &mut HashMap<PartKey, History>,
+    number: u32,
+    to: u64,
+) -> History
+    ensures before { result ≡ short_history row.old (get part_eq whole.old (PartKey.Raw number)) }
+    ensures moved { short_history row.new (get part_eq whole.new (PartKey.Raw number)) ≡ record { base = result.base; end = Some to } }
+    ensures others { (n : ℕ) → nat_eq number n ≡ false → get part_eq whole.new (PartKey.Raw n) ≡ get part_eq whole.old (PartKey.Raw n) }
+    ensures kept { (n : ℕ) → IsSome (get part_eq whole.old (PartKey.Raw n)) → IsSome (get part_eq whole.new (PartKey.Raw n)) }
+{
+    if let Short::Elsewhere = row {
+        if let Some(before) = move_name(whole, &PartKey::Raw(number), to) {
+            return before;
+        }
+    }
+    let before = row.alone();
+    *row = Short::ended(to);
+    before
+}
