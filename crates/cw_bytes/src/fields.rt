@@ -22,6 +22,7 @@ fn cut<'a>(place: usize, count: usize, from: Input<'a>) -> Result<(&'a [u8], Inp
     Ok((&from.rest[..count], past(from, count)))
 }
 
+/// A text's bytes, behind their length.
 #[tactic(auto, unfolding(crate::specs::Reading::text_at))]
 #[inline]
 pub fn text_of(from: Input<'_>) -> Result<(&[u8], Input<'_>), FieldFault>
@@ -66,6 +67,7 @@ fn raw_id_of(from: Input<'_>) -> Result<(Tid, Input<'_>), FieldFault>
     Ok((Tid::Raw(number), rest))
 }
 
+/// A producer's id.
 #[tactic(auto, unfolding(crate::specs::Reading::tid_at))]
 #[inline(always)]
 pub fn tid_of(alloc: Global, from: Input<'_>) -> Result<(Tid, Input<'_>), FieldFault>
@@ -80,6 +82,7 @@ pub fn tid_of(alloc: Global, from: Input<'_>) -> Result<(Tid, Input<'_>), FieldF
     }
 }
 
+/// A transaction's tag.
 #[tactic(auto, unfolding(crate::specs::Reading::tag_at))]
 #[inline]
 pub fn tag_of(alloc: Global, from: Input<'_>) -> Result<(Tag, Input<'_>), FieldFault>
@@ -108,6 +111,7 @@ fn flag_of(from: Input<'_>) -> Result<(bool, Input<'_>), FieldFault>
     }
 }
 
+/// A marker: a transaction, and whether it committed.
 #[tactic(auto, unfolding(crate::specs::Reading::mark_at))]
 pub fn mark_of(alloc: Global, from: Input<'_>) -> Result<(Mark, Input<'_>), FieldFault>
     ensures { Gives (λ x. (x.0, unread x.1)) result (mark_at (unread from.entry)) }
@@ -156,6 +160,7 @@ fn sink_of(alloc: Global, from: Input<'_>) -> Result<(PartKey, Input<'_>), Field
     Ok((PartKey::Sink { connector, topic }, rest))
 }
 
+/// A part's key.
 #[tactic(auto, unfolding(crate::specs::Reading::part_at))]
 #[inline(always)]
 pub fn part_of(alloc: Global, from: Input<'_>) -> Result<(PartKey, Input<'_>), FieldFault>
@@ -171,6 +176,7 @@ pub fn part_of(alloc: Global, from: Input<'_>) -> Result<(PartKey, Input<'_>), F
     }
 }
 
+/// A span of a part.
 #[tactic(auto, unfolding(crate::specs::Reading::span_at))]
 #[inline(always)]
 pub fn span_of(alloc: Global, from: Input<'_>) -> Result<(Span, Input<'_>), FieldFault>
@@ -182,7 +188,7 @@ pub fn span_of(alloc: Global, from: Input<'_>) -> Result<(Span, Input<'_>), Fiel
     Ok((Span { part, from, to }, rest))
 }
 
-// A span more behind others. One of a script's part, whose bytes are numbers, is made where it stays.
+/// A span more behind others. One of a script's part, whose bytes are numbers, is made where it stays.
 #[tactic(auto, unfolding(crate::specs::Reading::span_at, crate::specs::Reading::part_at, crate::specs::Reading::raw_part_at))]
 #[inline(always)]
 pub fn span_onto<'a>(
@@ -274,6 +280,7 @@ fn many_records_of(
     Ok((records, rest))
 }
 
+/// Records behind their number.
 #[tactic(auto, unfolding(crate::specs::Reading::records_at))]
 pub fn records_of(alloc: Global, from: Input<'_>) -> Result<(Vec<Applied>, Input<'_>), FieldFault>
     ensures { Gives (λ x. (x.0.items, unread x.1)) result (records_at (unread from.entry)) }

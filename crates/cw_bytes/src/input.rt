@@ -1,7 +1,7 @@
 //! Bytes that aren't read yet.
 ghost use Rattle.std.specs.Prelude.{◌+◌, ◌<◌, ◌^◌, length};
 
-// The unread bytes, and the place of the first of them.
+/// The unread bytes, and the place of the first of them.
 #[derive(Clone, Copy, Drop)]
 pub struct Input<'a> {
     pub place: usize,

@@ -8,6 +8,7 @@ ghost use Rattle.cw_bytes.specs.Reading.{Gives, byte_at, number_at};
 use crate::fault::FieldFault;
 use crate::input::Input;
 
+/// What is unread behind so many bytes more.
 #[inline]
 pub fn past(from: Input<'_>, count: usize) -> Input<'_>
     requires { count ≤ length from.rest.now }
@@ -19,6 +20,7 @@ pub fn past(from: Input<'_>, count: usize) -> Input<'_>
     }
 }
 
+/// One byte.
 #[inline]
 pub fn u8_of(from: Input<'_>) -> Result<(u8, Input<'_>), FieldFault>
     ensures { Gives (λ x. (x.0, unread x.1)) result (byte_at (unread from.entry)) }
@@ -35,6 +37,7 @@ pub fn u8_of(from: Input<'_>) -> Result<(u8, Input<'_>), FieldFault>
     }
 }
 
+/// A number of four bytes, the greatest first.
 #[inline]
 pub fn u32_of(from: Input<'_>) -> Result<(u32, Input<'_>), FieldFault>
     ensures { Gives (λ x. (x.0, unread x.1)) result (number_at w32 (unread from.entry)) }
@@ -47,6 +50,7 @@ pub fn u32_of(from: Input<'_>) -> Result<(u32, Input<'_>), FieldFault>
     Ok((number, past(from, 4)))
 }
 
+/// A number of eight bytes, the greatest first.
 #[inline]
 pub fn u64_of(from: Input<'_>) -> Result<(u64, Input<'_>), FieldFault>
     ensures { Gives (λ x. (x.0, unread x.1)) result (number_at w64 (unread from.entry)) }

@@ -93,7 +93,7 @@ impl Writer {
     }
 }
 
-// A number as four bytes.
+/// A number as four bytes.
 #[tactic(auto, unfolding(crate::specs::Spelling::word))]
 pub fn add_u32(field: &mut Vec<u8>, value: u32) -> Result<(), AllocError>
     ensures ok { OnOk result (field.new.items ≡ field.old.items ++ word value) }
@@ -102,7 +102,7 @@ pub fn add_u32(field: &mut Vec<u8>, value: u32) -> Result<(), AllocError>
     field.extend_from_slice(&value.to_be_bytes())
 }
 
-// A number as eight bytes.
+/// A number as eight bytes.
 #[tactic(auto, unfolding(crate::specs::Spelling::long))]
 pub fn add_u64(field: &mut Vec<u8>, value: u64) -> Result<(), AllocError>
     ensures ok { OnOk result (field.new.items ≡ field.old.items ++ long value) }
@@ -111,7 +111,7 @@ pub fn add_u64(field: &mut Vec<u8>, value: u64) -> Result<(), AllocError>
     field.extend_from_slice(&value.to_be_bytes())
 }
 
-// A text behind its length.
+/// A text behind its length.
 #[tactic(auto, unfolding(crate::specs::Spelling::text))]
 pub fn add_text(field: &mut Vec<u8>, bytes: &[u8]) -> Result<(), AllocError>
     requires { IsText bytes.now }

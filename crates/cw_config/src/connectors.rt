@@ -43,7 +43,7 @@ fn configured(alloc: Global, records: &[ConfigRecord]) -> Result<BTreeSet<Name>,
     Ok(names)
 }
 
-// The configured connectors, rising by their bytes.
+/// The configured connectors, rising by their bytes.
 pub fn connectors(alloc: Global, records: &[ConfigRecord]) -> Result<Vec<Name>, AllocError>
     ensures { IfOk result (λ names. AreConnectors records.now names.items) }
 {

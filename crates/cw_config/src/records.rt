@@ -42,7 +42,7 @@ fn copy_value(value: &Option<ConfigValue>) -> Result<Option<ConfigValue>, AllocE
     }
 }
 
-// The record that a key and a value are.
+/// The record that a key and a value are.
 pub fn read_record(
     alloc: Global,
     offset: u64,
@@ -67,7 +67,7 @@ pub fn read_record(
     }
 }
 
-// One record more.
+/// One record more.
 pub fn append(records: &mut Vec<ConfigRecord>, record: ConfigRecord) -> Result<(), AllocError>
     ensures ok { OnOk result (records.new.items ≡ records.old.items ++ «record» ∷ []) }
     ensures err { OnErr result (records.new.items ≡ records.old.items) }

@@ -10,7 +10,7 @@ use cw_json::Props;
 use cw_keys::{ConfigKey, ConfigValue, Target};
 use cw_types::Name;
 
-// A key in borrowed parts.
+/// A key in borrowed parts.
 #[derive(Clone, Copy, Drop)]
 pub enum KeyRef<'a> {
     Connector(&'a Name),
@@ -64,14 +64,14 @@ fn is_behind(record: &ConfigRecord, generation: Option<u64>) -> bool
     }
 }
 
-// The last record of a key.
+/// The last record of a key.
 pub fn last<'a>(records: &'a [ConfigRecord], key: &KeyRef<'_>) -> Option<&'a ConfigRecord>
     ensures { option_copied result ≡ last_of (key_of key.now) records.now }
 {
     records.iter().rev().find(|record| key.is(&record.key))
 }
 
-// The last record of a key before a generation.
+/// The last record of a key before a generation.
 pub fn last_before<'a>(
     records: &'a [ConfigRecord],
     key: &KeyRef<'_>,
@@ -82,7 +82,7 @@ pub fn last_before<'a>(
     records.iter().rev().find(|record| key.is(&record.key) && is_before(record, generation))
 }
 
-// The last record of a key behind a generation.
+/// The last record of a key behind a generation.
 pub fn last_behind<'a>(
     records: &'a [ConfigRecord],
     key: &KeyRef<'_>,
@@ -93,7 +93,7 @@ pub fn last_behind<'a>(
     records.iter().rev().find(|record| key.is(&record.key) && is_behind(record, generation))
 }
 
-// The properties that a record's value is.
+/// The properties that a record's value is.
 pub fn properties_in(record: &ConfigRecord) -> Option<&Props>
     ensures { option_map (λ props. props.now) result ≡ option_and_then properties_in «record».now.value }
 {
@@ -103,7 +103,7 @@ pub fn properties_in(record: &ConfigRecord) -> Option<&Props>
     }
 }
 
-// The number that a record's value is.
+/// The number that a record's value is.
 pub fn count_in(record: &ConfigRecord) -> Option<u32>
     ensures { result ≡ option_and_then count_in «record».now.value }
 {
@@ -113,7 +113,7 @@ pub fn count_in(record: &ConfigRecord) -> Option<u32>
     }
 }
 
-// The target state that a record's value is.
+/// The target state that a record's value is.
 pub fn target_in(record: &ConfigRecord) -> Option<Target>
     ensures { result ≡ option_and_then target_in «record».now.value }
 {

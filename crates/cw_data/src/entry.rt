@@ -125,7 +125,7 @@ impl<'a> EntryRef<'a> {
     }
 }
 
-// The batch at a place.
+/// The batch at a place.
 pub fn batch_at(entries: &[DataEntry], place: usize) -> Option<&Batch>
     ensures { option_copied result ≡ batch_at entries.now place }
 {
@@ -136,7 +136,7 @@ pub fn batch_at(entries: &[DataEntry], place: usize) -> Option<&Batch>
     }
 }
 
-// The value of the batch at a place that has an index there.
+/// The value of the batch at a place that has an index there.
 pub fn value_at(entries: &[DataEntry], place: usize, index: usize) -> Option<&[u8]>
     ensures { option_copied result ≡ slice_get (values_in (batch_at entries.now place)) index }
 {

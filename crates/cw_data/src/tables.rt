@@ -17,7 +17,7 @@ use cw_types::{Name, Tag};
 use std::alloc::{AllocError, Global};
 use std::collections::BTreeMap;
 
-// How each transaction is marked, the places of the batches without marker, and each topic.
+/// How each transaction is marked, the places of the batches without marker, and each topic.
 #[derive(Drop)]
 pub struct Tables {
     pub marks: BTreeMap<Tag, Option<bool>>,
@@ -26,6 +26,7 @@ pub struct Tables {
 }
 
 impl Tables {
+    /// With no row.
     pub fn new(alloc: Global) -> Tables
         ensures kept { Keeps result [] }
         ensures has { HasRoom result [] }
@@ -37,14 +38,14 @@ impl Tables {
         }
     }
 
-    // A topic, if it has a row.
+    /// A topic, if it has a row.
     pub fn topic(&self, name: &Name) -> Option<&Topic>
         ensures { option_copied result ≡ get name_order self.now.topics name.now }
     {
         self.topics.get(name)
     }
 
-    // Rows and room for an entry beside those that are reserved. All reads as before.
+    /// Rows and room for an entry beside those that are reserved. All reads as before.
     pub fn make_rows(
         &mut self,
         alloc: Global,
@@ -66,7 +67,7 @@ impl Tables {
         }
     }
 
-    // The entry with which the log ends.
+    /// The entry with which the log ends.
     pub fn add(&mut self, entries: &[DataEntry], place: usize)
         requires last { length entries.now ≡ place + 1 }
         requires kept { Keeps self.old (take place entries.now) }

@@ -12,7 +12,7 @@ use cw_types::Tag;
 use std::alloc::{AllocError, Global};
 use std::collections::BTreeMap;
 
-// Where a batch's records stand in their topic, and where the batch stands in the log.
+/// Where a batch's records stand in their topic, and where the batch stands in the log.
 #[derive(Clone, Copy, Debug, Drop)]
 pub struct Row {
     // The offset of its first record.
@@ -23,8 +23,8 @@ pub struct Row {
     pub place: usize,
 }
 
-// The rows of a topic's batches. The first `passed` of them have a marker, and the committed ones of those
-// have been moved to the first `kept` places.
+/// The rows of a topic's batches. The first `passed` of them have a marker, and the committed ones of those
+/// have been moved to the first `kept` places.
 #[derive(Drop)]
 pub struct Topic {
     pub end: u64,
@@ -34,6 +34,7 @@ pub struct Topic {
 }
 
 impl Topic {
+    /// With no batch.
     pub fn new(alloc: Global) -> Topic
         ensures { (marks : Marks) (entries : List DataEntry) (name : List ℕ) → records name entries ≡ [] → IsTopic marks entries name result }
     {
@@ -45,7 +46,7 @@ impl Topic {
         }
     }
 
-    // The last stable offset: where the first batch without marker begins, else the topic's end.
+    /// The last stable offset: where the first batch without marker begins, else the topic's end.
     pub fn stable(&self) -> u64
         requires { IsSound self.now }
         ensures { result ≡ first_or self.now.end (drop self.now.passed self.now.rows.items) }
@@ -56,7 +57,7 @@ impl Topic {
         }
     }
 
-    // The first committed batch below the last stable offset that ends behind an offset.
+    /// The first committed batch below the last stable offset that ends behind an offset.
     pub fn find(&self, from: u64) -> Option<Row>
         requires sound { IsSound self.now }
         requires rising { IsPartitionedBy (λ row. nat_le row.end from) (take self.now.kept self.now.rows.items) }
@@ -65,7 +66,7 @@ impl Topic {
         first_behind(&self.rows[..self.kept], from)
     }
 
-    // Room for so many rows more.
+    /// Room for so many rows more.
     pub fn reserve(&mut self, more: usize) -> Result<(), AllocError>
         ensures same { (self.new.rows.items ≡ self.old.rows.items) × (self.new.end ≡ self.old.end) × (self.new.kept ≡ self.old.kept) × (self.new.passed ≡ self.old.passed) }
         ensures room { vec_capacity self.old.rows ≤ vec_capacity self.new.rows }
@@ -74,7 +75,7 @@ impl Topic {
         self.rows.reserve(more)
     }
 
-    // One batch more, of so many records, with which the log ends.
+    /// One batch more, of so many records, with which the log ends.
     pub fn add(
         &mut self,
         entries: &[DataEntry],
@@ -113,7 +114,7 @@ impl Topic {
         push_made(&mut self.rows, Row { first, end, place });
     }
 
-    // Passes the batches that have a marker, up to the first one that has none.
+    /// Passes the batches that have a marker, up to the first one that has none.
     pub fn advance(&mut self, entries: &[DataEntry], marks: &BTreeMap<Tag, Option<bool>>)
         requires { IsSound self.old }
         ensures topic { (name : List ℕ) → Waits (marks_in marks.now) entries.now name self.old → IsTopic (marks_in marks.now) entries.now name self.new }
@@ -157,7 +158,7 @@ impl Topic {
     }
 }
 
-// How a transaction is marked.
+/// How a transaction is marked.
 pub fn marker(marks: &BTreeMap<Tag, Option<bool>>, tag: &Tag) -> Option<bool>
     ensures { result ≡ marks_in marks.now tag.now }
 {
@@ -196,7 +197,7 @@ fn row_at(rows: &[Row], at: usize) -> Option<Row>
     }
 }
 
-// Pushes into room that was made.
+/// Pushes into room that was made.
 pub fn push_made<T: Drop>(items: &mut Vec<T>, item: T)
     requires { vec_len items.old < vec_capacity items.old }
     ensures pushed { items.new.items ≡ items.old.items ++ item ∷ [] }

@@ -20,7 +20,7 @@ pub struct Settled {
     pub to: Option<u64>,
 }
 
-// What each part has, and the places of the puts that wait, the oldest first.
+/// What each part has, and the places of the puts that wait, the oldest first.
 #[derive(Drop)]
 pub struct Tables {
     pub parts: BTreeMap<PartKey, Option<Settled>>,
@@ -30,6 +30,7 @@ pub struct Tables {
 impl Tables {
     ghost use Rattle.cw_offset.specs.Tables.{call_of, settled_at, Keeps, HasPart, HasRow, HaveRows};
 
+    /// With no row, and nothing that waits.
     pub fn new(alloc: Global) -> Tables
         ensures kept { Keeps result [] }
         ensures waiting { result.waiting.items ≡ [] }
@@ -40,13 +41,14 @@ impl Tables {
         }
     }
 
+    /// What a part has, behind the puts that are settled.
     pub fn settled(&self, part: &PartKey) -> Option<Settled>
         ensures { result ≡ settled_at self.now.parts part.now }
     {
         value_at(&self.parts, part, None)
     }
 
-    // The row that a call may change, reading as before.
+    /// The row that a call may change, reading as before.
     pub fn make_rows(&mut self, call: &CallRef<'_>) -> Result<(), AllocError>
         ensures same { (part : PartKey) → settled_at self.new.parts part ≡ settled_at self.old.parts part }
         ensures kept { (part : PartKey) → HasPart self.old.parts part → HasPart self.new.parts part }
@@ -61,7 +63,7 @@ impl Tables {
         }
     }
 
-    // One call more, behind these.
+    /// One call more, behind these.
     pub fn add(&mut self, calls: &[OffsetCall], call: &OffsetCall)
         requires row { HasRow self.old.parts call.now }
         requires rows { HaveRows self.old.parts calls.now }
@@ -225,7 +227,7 @@ fn is_put_of(calls: &[OffsetCall], place: usize, tag: &Tag) -> bool
     }
 }
 
-// The first transaction of what waits that has ended.
+/// The first transaction of what waits that has ended.
 pub fn first_ended<'a, T: Decided>(
     calls: &'a [OffsetCall],
     waiting: &[usize],

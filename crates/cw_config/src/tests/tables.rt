@@ -1,6 +1,6 @@
 //! Records of the config log with what a state says behind them, made by a model outside this project.
 
-// A new state, a record (its offset, key and value) that is taken or refused, or a look-up with its answer.
+/// A new state, a record (its offset, key and value) that is taken or refused, or a look-up with its answer.
 pub const RECORDS: &str = r##"new
 next => 0
 connectors => none
