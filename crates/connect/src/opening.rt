@@ -51,10 +51,12 @@ pub(crate) struct Reading {
 }
 
 /// Opens a disk as the transaction log, whatever its file holds: a new log where the file is unmade. Damaged
-/// comes exactly where the file has a harm, its first one; with each `Err` the disk comes back.
+/// comes exactly where the file has a harm, its first one; with each `Err` the disk comes back. The seed is as for
+/// `Replay::new`.
 pub(crate) fn open_transactions<D: Disk>(
     alloc: Global,
     disk: D,
+    seed: u128,
 ) -> Result<Transactions<D>, OpeningFault<D>>
     ensures alive { IfOk result (λ kept. (kept.log.shut ≡ false) × (kept.log.failed ≡ None)) }
     ensures safe { IfOk result (λ kept. IsSafe kept.entries) }
@@ -81,7 +83,7 @@ pub(crate) fn open_transactions<D: Disk>(
     match TopicLog::open_log(alloc, disk, LogName::Txn, MOST_LOG) {
         Ok(log) => {
             let mut log = log;
-            match coordinator_of(alloc, &mut log) {
+            match coordinator_of(alloc, &mut log, seed) {
                 Ok(coordinator) => {
                     log.rest();
                     Ok(Transactions::of(alloc, log, coordinator))
@@ -107,7 +109,11 @@ fn refused<D: Disk>(disk: D, cause: OpenCause) -> OpeningFault<D>
 }
 
 // The coordinator of a log's list.
-fn coordinator_of<D: Disk>(alloc: Global, log: &mut TopicLog<D>) -> Result<Coordinator, OpenCause>
+fn coordinator_of<D: Disk>(
+    alloc: Global,
+    log: &mut TopicLog<D>,
+    seed: u128,
+) -> Result<Coordinator, OpenCause>
     ensures kept { IfOk result (λ c. IsSafe c.entries × ((bodies : List (List ℕ)) → log.old.bodies ≡ Some bodies →
         Hold bodies c.entries × (log.new.length ≡ length_of bodies))) }
     ensures fault { IfErr result (OnCause
@@ -118,7 +124,7 @@ fn coordinator_of<D: Disk>(alloc: Global, log: &mut TopicLog<D>) -> Result<Coord
     ensures reads { Reads D.holds D.may_leave D.moment D.left_since D.count D.reserved log.old.disk log.new.disk }
 {
     let size = log.length();
-    let reading = read_bodies(alloc, log, size)?;
+    let reading = read_bodies(alloc, log, size, seed)?;
     let coordinator = coordinator_of_entries(reading.replay)?;
     Ok(coordinator)
 }
@@ -128,6 +134,7 @@ fn read_bodies<D: Disk>(
     alloc: Global,
     log: &mut TopicLog<D>,
     size: u64,
+    seed: u128,
 ) -> Result<Reading, OpenCause>
     requires size { (bodies : List (List ℕ)) → log.old.bodies ≡ Some bodies → size ≡ length_of bodies }
     ensures list { IfOk result (λ reading. (bodies : List (List ℕ)) → log.old.bodies ≡ Some bodies → HasRead bodies reading) }
@@ -139,7 +146,7 @@ fn read_bodies<D: Disk>(
     ensures reads { Reads D.holds D.may_leave D.moment D.left_since D.count D.reserved log.old.disk log.new.disk }
 {
     let mut reading = Reading {
-        replay: Replay::new(alloc, size),
+        replay: Replay::new(alloc, size, seed),
         at: 16,
     };
     let mut body = Vec::new(alloc);

@@ -19,6 +19,7 @@ use cw_disk::{Disk, Disks};
 use cw_io::{Sink, Source};
 use cw_types::DiskName;
 use std::alloc::Global;
+use std::random::RandomSource;
 
 /// What a run of the program gave.
 #[derive(Drop)]
@@ -31,8 +32,8 @@ pub struct Outcome<D> {
 
 /// The program: the one word `drive` opens the transactions on their disk, and plays the script that the
 /// input holds, writing an answer line for each directive. Every other command line is Usage, and does
-/// nothing.
-pub fn connect<R: AllocGlobal, D: Disk, I: Source, O: Sink>(
+/// nothing. What it takes of the runtime at random tells how its tables hash numbers, and nothing but speed depends on it.
+pub fn connect<R: AllocGlobal + RandomSource, D: Disk, I: Source, O: Sink>(
     rt: &R,
     words: &[String],
     disks: Disks<D>,
@@ -84,7 +85,7 @@ pub fn connect<R: AllocGlobal, D: Disk, I: Source, O: Sink>(
             disks,
         };
     }
-    let driven = open_and_drive(rt.alloc(), disks.txn, input, output);
+    let driven = open_and_drive(rt.alloc(), random_seed(rt), disks.txn, input, output);
     Outcome {
         status: driven.status,
         disks: Disks {
@@ -103,6 +104,7 @@ pub fn connect<R: AllocGlobal, D: Disk, I: Source, O: Sink>(
 // Opens the transactions on their disk, and plays the script over them.
 fn open_and_drive<D: Disk, I: Source, O: Sink>(
     alloc: Global,
+    seed: u128,
     disk: D,
     input: &mut I,
     output: &mut O,
@@ -120,12 +122,21 @@ fn open_and_drive<D: Disk, I: Source, O: Sink>(
     ensures later_out { O.faults output.old ≤ O.faults output.new }
     ensures later_disk { D.count disk ≤ D.count result.disk }
 {
-    match open_transactions(alloc, disk) {
+    match open_transactions(alloc, disk, seed) {
         Ok(transactions) => drive(alloc, transactions, input, output),
         Err(fault) => Driven {
             status: status_of_cause(fault.cause),
             disk: fault.disk,
         },
+    }
+}
+
+// A number drawn at random, or 0 where the system gives none.
+fn random_seed<R: RandomSource>(rt: &R) -> u128 {
+    let mut bytes = [0; 16];
+    match rt.fill_bytes(&mut bytes) {
+        Ok(()) => u128::from_le_bytes(bytes),
+        Err(_) => 0,
     }
 }
 

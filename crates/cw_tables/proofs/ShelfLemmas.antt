@@ -2,6 +2,7 @@
 use Rattle.std.proofs.Common.{Bool, true, false, ◌≡◌, ◌≢◌, ◌<◌, ◌≤◌, ◌+◌, ◌++◌, ◌∷◌, ℕ, suc, zero, List, [], length, set, take, slice_index_or, nat_eq, cond, refl, sym, ap, subst, ◌∙◌, arith}
 use Rattle.std.proofs.lemmas.Bool.Decides.{nat_tests}
 use Rattle.std.specs.Global.{Vec}
+use Rattle.cw_tables.specs.declared.hashing.Hashing.{Hashing}
 use Rattle.cw_tables.specs.Shelves.{times, times_on, count_on, numbers_of, place_of, ArePlaced}
 
 -- one number more
@@ -157,8 +158,8 @@ times_at_le q (first ∷ shelves) zero = omega arith
 times_at_le q (first ∷ shelves) (suc at) = omega (arith, times_at_le q shelves at)
 
 -- where there is no number, each is on its own shelf
-pub none_placed : (shelves : List (Vec ℕ)) → ((q : ℕ) → times_on q shelves ≡ 0) → ArePlaced shelves
-none_placed shelves none q at other = omega (arith, times_at_le q shelves at, none q)
+pub none_placed : (hashing : Hashing) (shelves : List (Vec ℕ)) → ((q : ℕ) → times_on q shelves ≡ 0) → ArePlaced hashing shelves
+none_placed hashing shelves none q at other = omega (arith, times_at_le q shelves at, none q)
 
 -- a number that is on one shelf alone
 only_at : (q : ℕ) (shelves : List (Vec ℕ)) (at : ℕ) → ((other : ℕ) → at ≢ other → times q (numbers_of shelves other) ≡ 0) → times_on q shelves ≡ times q (numbers_of shelves at)
@@ -170,16 +171,16 @@ only_at q (first ∷ shelves) (suc at) alone =
     omega (arith, alone 0 (λ same. absurd (omega (arith, same))), only_at q shelves at (λ k not. alone (suc k) (λ same. not (omega (arith, same)))))
 
 -- how often a number waits is told by its own shelf
-pub times_placed : (q : ℕ) (shelves : List (Vec ℕ)) → ArePlaced shelves → times_on q shelves ≡ times q (numbers_of shelves (place_of q))
-times_placed q shelves placed = only_at q shelves (place_of q) (λ at not. placed q at not)
+pub times_placed : (hashing : Hashing) (q : ℕ) (shelves : List (Vec ℕ)) → ArePlaced hashing shelves → times_on q shelves ≡ times q (numbers_of shelves (place_of hashing q))
+times_placed hashing q shelves placed = only_at q shelves (place_of hashing q) (λ at not. placed q at not)
 
 -- a number more on its own shelf
-module _ (shelves : List (Vec ℕ)) (at number : ℕ) (old new : Vec ℕ) (low : at < length shelves) (is : slice_index_or shelves at old ≡ old) (more : new.items ≡ old.items ++ number ∷ [])
-    (own : place_of number ≡ at) (placed : ArePlaced shelves) where
-  put_here : (q : ℕ) → place_of q ≢ at → times q new.items ≡ 0
+module _ (hashing : Hashing) (shelves : List (Vec ℕ)) (at number : ℕ) (old new : Vec ℕ) (low : at < length shelves) (is : slice_index_or shelves at old ≡ old) (more : new.items ≡ old.items ++ number ∷ [])
+    (own : place_of hashing number ≡ at) (placed : ArePlaced hashing shelves) where
+  put_here : (q : ℕ) → place_of hashing q ≢ at → times q new.items ≡ 0
   put_here q not =
       let was : times q old.items ≡ 0 = ap (λ (s : Vec ℕ). times q s.items) (sym is) ∙ ap (times q) (sym (numbers_of_at shelves at old low)) ∙ placed q at not in
-      let another : nat_eq number q ≡ false = differ (nat_eq number q) (λ same. not (ap place_of (sym (equal number q same)) ∙ own)) in
+      let another : nat_eq number q ≡ false = differ (nat_eq number q) (λ same. not (ap (place_of hashing) (sym (equal number q same)) ∙ own)) in
       ap (times q) more ∙ times_more q old.items number ∙ omega (arith, was, ap (λ (b : Bool). cond {A = ℕ} b 1 0) another)
     where
       equal : (a b : ℕ) → nat_eq a b ≡ true → a ≡ b
@@ -189,7 +190,7 @@ module _ (shelves : List (Vec ℕ)) (at number : ℕ) (old new : Vec ℕ) (low :
       differ true never = absurd (never refl)
       differ false never = refl
 
-  placed_at : (q other : ℕ) → place_of q ≢ other → (b : Bool) → nat_eq at other ≡ b → times q (numbers_of (set shelves at new) other) ≡ 0
+  placed_at : (q other : ℕ) → place_of hashing q ≢ other → (b : Bool) → nat_eq at other ≡ b → times q (numbers_of (set shelves at new) other) ≡ 0
   placed_at q other not true same =
       let here : at ≡ other = grind (arith, nat_tests) in
       subst (λ (k : ℕ). times q (numbers_of (set shelves at new) k) ≡ 0) here (ap (times q) (numbers_of_set shelves at new low) ∙ put_here q (λ there. not (there ∙ here)))
@@ -197,12 +198,12 @@ module _ (shelves : List (Vec ℕ)) (at number : ℕ) (old new : Vec ℕ) (low :
       let another : at ≢ other = grind (arith, nat_tests) in
       ap (times q) (numbers_of_other shelves at new other another) ∙ placed q other not
 
-  pub placed_put : ArePlaced (set shelves at new)
+  pub placed_put : ArePlaced hashing (set shelves at new)
   placed_put q other not = placed_at q other not (nat_eq at other) refl
 
 -- the same numbers
-pub placed_same : (old new : List (Vec ℕ)) → ((at : ℕ) → numbers_of new at ≡ numbers_of old at) → ArePlaced old → ArePlaced new
-placed_same old new same placed q at not = ap (times q) (same at) ∙ placed q at not
+pub placed_same : (hashing : Hashing) (old new : List (Vec ℕ)) → ((at : ℕ) → numbers_of new at ≡ numbers_of old at) → ArePlaced hashing old → ArePlaced hashing new
+placed_same hashing old new same placed q at not = ap (times q) (same at) ∙ placed q at not
 
 at_most_one : (b : Bool) → cond {A = ℕ} b 1 0 ≤ 1
 at_most_one true = omega arith

@@ -1,3 +1,4 @@
+pub mod Hashing
 pub mod Numbered
 pub mod Sparse
 pub mod Lent

@@ -9,4 +9,4 @@ numbered_row table number = if nat_lt number table.limit then slice_get table.lo
 
 -- the place where a look-up of a number ends: in the other table where it isn't below the limit
 abbrev pub IsFoundAt : {V : Type 0} → Numbered V → ℕ → ℕ → Type 0
-IsFoundAt table number place = nat_lt number table.limit ≡ false → IsPlaceOf table.high.slots.items table.high.homes number place × (place < 2 ^ 63)
+IsFoundAt table number place = nat_lt number table.limit ≡ false → IsPlaceOf table.high.slots.items table.high.hashing table.high.homes number place × (place < 2 ^ 63)

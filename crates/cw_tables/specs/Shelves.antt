@@ -1,7 +1,8 @@
 -- Numbers on shelves. A number may be there more than once.
 use Rattle.std.specs.Prelude.{◌≡◌, ◌≢◌, ℕ, suc, zero, ◌+◌, nat_eq, List, [], ◌∷◌, length, if◌then◌else◌}
 use Rattle.std.specs.Global.{Vec}
-use Rattle.cw_tables.specs.Sparse.{home_of}
+use Rattle.cw_tables.specs.declared.hashing.Hashing.{Hashing}
+use Rattle.cw_tables.specs.Hashing.{home_of}
 
 -- how often a number is in a list
 abbrev pub times : ℕ → List ℕ → ℕ
@@ -25,9 +26,9 @@ numbers_of (shelf ∷ shelves) zero = shelf.items
 numbers_of (shelf ∷ shelves) (suc at) = numbers_of shelves at
 
 -- which shelf a number has
-abbrev pub place_of : ℕ → ℕ
-place_of number = home_of number 1024
+abbrev pub place_of : Hashing → ℕ → ℕ
+place_of hashing number = home_of hashing number 1024
 
 -- each number is on its own shelf
-abbrev pub ArePlaced : List (Vec ℕ) → Type 0
-ArePlaced shelves = (q at : ℕ) → place_of q ≢ at → times q (numbers_of shelves at) ≡ 0
+abbrev pub ArePlaced : Hashing → List (Vec ℕ) → Type 0
+ArePlaced hashing shelves = (q at : ℕ) → place_of hashing q ≢ at → times q (numbers_of shelves at) ≡ 0

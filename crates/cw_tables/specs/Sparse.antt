@@ -1,5 +1,7 @@
 -- What the places of a table by hashes say of a number. A row stands at its number's home or behind it.
-use Rattle.std.specs.Prelude.{◌≡◌, ◌≤◌, ◌<◌, ◌*◌, ◌/◌, ◌%◌, ◌^◌, ℕ, Bool, true, false, not, nat_eq, List, [], ◌∷◌, slice_index_or, Option, Some, None, if◌then◌else◌}
+use Rattle.std.specs.Prelude.{◌≡◌, ◌≤◌, ◌<◌, ℕ, Bool, true, false, not, nat_eq, List, [], ◌∷◌, slice_index_or, Option, Some, None, if◌then◌else◌}
+use Rattle.cw_tables.specs.declared.hashing.Hashing.{Hashing}
+use Rattle.cw_tables.specs.Hashing.{home_of}
 use Rattle.cw_tables.specs.declared.sparse.Slot.{Slot}
 use Rattle.cw_tables.specs.declared.sparse.Slot.TheVariants.{Empty, Row}
 
@@ -28,20 +30,16 @@ abbrev pub value_in : {V : Type 0} → Slot V → Option V
 value_in Empty = None
 value_in (Row value number) = Some value
 
--- the place where a look-up of a number begins: as far among the homes as the number's hash is among all
-unfoldable pub home_of : ℕ → ℕ → ℕ
-home_of number homes = number * 2654435761 % 2 ^ 32 * homes / 2 ^ 32
-
 -- a place that a look-up of a number comes to: from its home on there are rows of other numbers
-pub record IsReached {V : Type 0} (slots : List (Slot V)) (homes number place : ℕ) : Type 0 where
-  pub from : home_of number homes ≤ place
-  pub others : (k : ℕ) → home_of number homes ≤ k → k < place → is_other number (slot_at slots k) ≡ true
+pub record IsReached {V : Type 0} (slots : List (Slot V)) (hashing : Hashing) (homes number place : ℕ) : Type 0 where
+  pub from : home_of hashing number homes ≤ place
+  pub others : (k : ℕ) → home_of hashing number homes ≤ k → k < place → is_other number (slot_at slots k) ≡ true
 
 -- each row is reached by a look-up of its number
-abbrev pub AllReached : {V : Type 0} → List (Slot V) → ℕ → Type 0
-AllReached slots homes = (number place : ℕ) → has_number number (slot_at slots place) ≡ true → IsReached slots homes number place
+abbrev pub AllReached : {V : Type 0} → List (Slot V) → Hashing → ℕ → Type 0
+AllReached slots hashing homes = (number place : ℕ) → has_number number (slot_at slots place) ≡ true → IsReached slots hashing homes number place
 
 -- the place where a look-up of a number ends: its row, or none
-pub record IsPlaceOf {V : Type 0} (slots : List (Slot V)) (homes number place : ℕ) : Type 0 where
-  pub reached : IsReached slots homes number place
+pub record IsPlaceOf {V : Type 0} (slots : List (Slot V)) (hashing : Hashing) (homes number place : ℕ) : Type 0 where
+  pub reached : IsReached slots hashing homes number place
   pub here : is_other number (slot_at slots place) ≡ false

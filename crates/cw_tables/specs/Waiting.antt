@@ -13,4 +13,4 @@ waits waiting number = times_on number waiting.shelves.items
 
 -- the numbers on the shelf of this one
 abbrev pub beside : Shelves → ℕ → List ℕ
-beside waiting number = numbers_of waiting.shelves.items (place_of number)
+beside waiting number = numbers_of waiting.shelves.items (place_of waiting.hashing number)

@@ -6,6 +6,7 @@
 
 mod forecast;
 pub mod hashed;
+mod hashing;
 mod numbered;
 mod rows;
 mod shelves;
@@ -14,6 +15,7 @@ mod sparse;
 mod tests;
 
 pub use forecast::{Forecast, Glance};
+pub use hashing::Hashing;
 pub use numbered::Numbered;
 pub use rows::{has_row, make_row, set_row, value_at};
 pub use shelves::{SHELVES, Shelves};

@@ -2,6 +2,7 @@
 ghost use Rattle.std.specs.Prelude.{◌≡◌, ◌<◌, ◌≤◌, ◌^◌, ℕ, nat_eq, nat_lt, true, false, length, OnOk, OnErr, IsSome, Some, None, unwrap_or, if◌then◌else◌};
 
 use crate::forecast::{Forecast, Glance};
+use crate::hashing::Hashing;
 use crate::sparse::Sparse;
 use std::alloc::{AllocError, Global};
 
@@ -24,13 +25,13 @@ pub struct Numbered<V> {
 impl<V: Copy + Drop> Numbered<V> {
     ghost use Rattle.cw_tables.specs.Numbered.{IsFoundAt, numbered_row};
 
-    /// With no row.
-    pub fn new(alloc: Global) -> Numbered<V>
+    /// With no row, for numbers that are hashed so.
+    pub fn new(alloc: Global, hashing: &Hashing) -> Numbered<V>
         ensures { (q : ℕ) → numbered_row result q ≡ None }
     {
         Numbered {
             low: Vec::new(alloc),
-            high: Sparse::new(alloc),
+            high: Sparse::new(alloc, hashing),
             limit: LOW,
             lengthened: 0,
         }

@@ -1,9 +1,10 @@
 //! Numbers that wait, by the places of their rows.
 ghost use Rattle.std.specs.Prelude.{◌≡◌, ◌<◌, ◌+◌, ◌^◌, ℕ, nat_eq, true, length, OnOk, OnErr, if◌then◌else◌};
+ghost use Rattle.cw_tables.specs.declared.hashing.Hashing.{Hashing};
 ghost use Rattle.cw_tables.specs.Shelves.{ArePlaced, count_on, numbers_of, place_of, times, times_on};
 ghost use Rattle.std.proofs.Props.{props};
 
-use crate::sparse::home;
+use crate::hashing::Hashing;
 use std::alloc::{AllocError, Global};
 
 /// How many shelves there are.
@@ -14,21 +15,23 @@ pub const SHELVES: usize = 1024;
 #[derive(Drop)]
 pub struct Shelves {
     shelves: Vec<Vec<u32>>,
+    hashing: Hashing,
     length: usize,
     ghost counted: { length ≡ count_on shelves.items } by { Prim.hlevel props },
-    ghost placed: { ArePlaced shelves.items } by { Prim.hlevel props },
+    ghost placed: { ArePlaced hashing shelves.items } by { Prim.hlevel props },
 }
 
 impl Shelves {
     ghost use Rattle.cw_tables.specs.Waiting.{beside, how_many, waits};
 
-    /// With no number, and no memory.
-    pub fn new(alloc: Global) -> Shelves
+    /// With no number, and no memory, for numbers that are hashed so.
+    pub fn new(alloc: Global, hashing: &Hashing) -> Shelves
         ensures waits { (q : ℕ) → waits result q ≡ 0 }
         ensures count { how_many result ≡ 0 }
     {
         Shelves {
             shelves: Vec::new(alloc),
+            hashing: *hashing,
             length: 0,
         }
     }
@@ -64,7 +67,7 @@ impl Shelves {
     pub fn beside(&self, number: u32) -> &[u32]
         ensures { result.now ≡ beside self.now number }
     {
-        numbers_of(&self.shelves, home(number, SHELVES))
+        numbers_of(&self.shelves, self.hashing.home(number, SHELVES))
     }
 
     /// Puts a number on its shelf.
@@ -78,7 +81,7 @@ impl Shelves {
         if self.length == usize::MAX {
             return Err(AllocError);
         }
-        let shelf = home(number, SHELVES);
+        let shelf = self.hashing.home(number, SHELVES);
         reach(&mut self.shelves, shelf)?;
         put_on(&mut self.shelves, shelf, number)?;
         self.length += 1;
@@ -125,7 +128,7 @@ fn put_on(shelves: &mut Vec<Vec<u32>>, shelf: usize, number: u32) -> Result<(), 
     ensures same { OnErr result ((q : ℕ) → times_on q shelves.new.items ≡ times_on q shelves.old.items) }
     ensures count { OnOk result (count_on shelves.new.items ≡ count_on shelves.old.items + 1) }
     ensures same_count { OnErr result (count_on shelves.new.items ≡ count_on shelves.old.items) }
-    ensures placed { place_of number ≡ shelf → ArePlaced shelves.old.items → ArePlaced shelves.new.items }
+    ensures placed { (hashing : Hashing) → place_of hashing number ≡ shelf → ArePlaced hashing shelves.old.items → ArePlaced hashing shelves.new.items }
 {
     shelves[shelf].push(number)?;
     Ok(())

@@ -1,10 +1,11 @@
 //! A table by numbers of which few are in use, with each row in one place of memory.
 ghost use Rattle.std.specs.Prelude.{◌≡◌, ◌≤◌, ◌<◌, ◌^◌, ℕ, length, nat_eq, true, false, OnOk, OnErr, IfOk, IsSome, Some, None, unwrap_or, if◌then◌else◌};
-ghost use Rattle.cw_tables.specs.Sparse.{AllReached, IsPlaceOf, home_of, is_other, listed, slot_at, value_in};
+ghost use Rattle.cw_tables.specs.Sparse.{AllReached, IsPlaceOf, is_other, listed, slot_at, value_in};
 ghost use Rattle.std.specs.Option.{option_copied_mut};
 ghost use Rattle.std.proofs.Props.{props};
 
 use crate::forecast::Forecast;
+use crate::hashing::Hashing;
 use std::alloc::{AllocError, Global};
 
 // A table begins with so many homes.
@@ -19,7 +20,7 @@ const LARGE: usize = 1 << 18;
 // Places behind the last home, for rows that find none at theirs: as many as there are homes, but at most these.
 const MARGIN: usize = 1024;
 
-// A place of the table. Where a value is a few bytes, it lies before the number, which needs to be aligned.
+/// A place of the table. Where a value is a few bytes, it lies before the number, which needs to be aligned.
 #[derive(Clone, Copy, Drop)]
 pub enum Slot<V> {
     Empty,
@@ -49,21 +50,23 @@ impl<V: Copy + Drop> Slot<V> {
 #[derive(Drop)]
 pub struct Sparse<V> {
     slots: Vec<Slot<V>>,
+    hashing: Hashing,
     // how many homes there are
     homes: usize,
     // rows that were put
     rows: usize,
     ghost few: { homes ≤ 2 ^ 32 },
-    ghost reached: { AllReached slots.items homes } by { Prim.hlevel props },
+    ghost reached: { AllReached slots.items hashing homes } by { Prim.hlevel props },
 }
 
 impl<V: Copy + Drop> Sparse<V> {
-    /// With no row, and no memory.
-    pub fn new(alloc: Global) -> Sparse<V>
+    /// With no row, and no memory, for numbers that are hashed so.
+    pub fn new(alloc: Global, hashing: &Hashing) -> Sparse<V>
         ensures { (q : ℕ) → listed result.slots.items q ≡ None }
     {
         Sparse {
             slots: Vec::new(alloc),
+            hashing: *hashing,
             homes: FIRST_HOMES,
             rows: 0,
         }
@@ -88,7 +91,7 @@ impl<V: Copy + Drop> Sparse<V> {
     /// The place where a look-up of a number ends, and its row.
     #[inline]
     pub fn find(&self, number: u32) -> (usize, Option<V>)
-        ensures place { IsPlaceOf self.now.slots.items self.now.homes number result.0 }
+        ensures place { IsPlaceOf self.now.slots.items self.now.hashing self.now.homes number result.0 }
         ensures within { result.0 < 2 ^ 63 }
         ensures row { result.1 ≡ listed self.now.slots.items number }
     {
@@ -99,10 +102,10 @@ impl<V: Copy + Drop> Sparse<V> {
     // Where a look-up of a number ends.
     #[inline]
     fn place_of(&self, number: u32) -> usize
-        ensures place { IsPlaceOf self.now.slots.items self.now.homes number result }
+        ensures place { IsPlaceOf self.now.slots.items self.now.hashing self.now.homes number result }
         ensures within { result < 2 ^ 63 }
     {
-        let mut at = home(number, self.homes);
+        let mut at = self.hashing.home(number, self.homes);
         while holds_other(&self.slots, at, number) {
             at += 1;
         }
@@ -150,7 +153,7 @@ impl<V: Copy + Drop> Sparse<V> {
     /// Sets the row of a number at the place where a look-up of it ends, or makes it.
     #[inline]
     pub fn set_at(&mut self, at: usize, number: u32, value: V) -> Result<(), AllocError>
-        requires place { IsPlaceOf self.old.slots.items self.old.homes number at }
+        requires place { IsPlaceOf self.old.slots.items self.old.hashing self.old.homes number at }
         requires within { at < 2 ^ 63 }
         ensures put { OnOk result ((q : ℕ) → listed self.new.slots.items q ≡ (if nat_eq number q then Some value else listed self.old.slots.items q)) }
         ensures same { OnErr result ((q : ℕ) → listed self.new.slots.items q ≡ listed self.old.slots.items q) }
@@ -171,7 +174,7 @@ impl<V: Copy + Drop> Sparse<V> {
     pub fn is_free(&self, number: u32) -> bool
         ensures { result ≡ true → listed self.now.slots.items number ≡ None }
     {
-        is_empty_at(&self.slots, home(number, self.homes))
+        is_empty_at(&self.slots, self.hashing.home(number, self.homes))
     }
 
     /// How many rows there are, as far as they were counted. Nothing but speed and memory depends on it.
@@ -219,7 +222,7 @@ impl<V: Copy + Drop> Sparse<V> {
         requires { homes ≤ 2 ^ 32 }
         ensures { IfOk result (λ wider. (q : ℕ) → listed wider.slots.items q ≡ listed self.now.slots.items q) }
     {
-        let mut wider = Sparse::empty(*self.slots.allocator(), homes)?;
+        let mut wider = Sparse::empty(*self.slots.allocator(), &self.hashing, homes)?;
         for slot in &self.slots {
             match slot {
                 Slot::Empty => continue,
@@ -231,7 +234,7 @@ impl<V: Copy + Drop> Sparse<V> {
     }
 
     // Empty places for each home, and for some behind them.
-    fn empty(alloc: Global, homes: usize) -> Result<Sparse<V>, AllocError>
+    fn empty(alloc: Global, hashing: &Hashing, homes: usize) -> Result<Sparse<V>, AllocError>
         requires { homes ≤ 2 ^ 32 }
         ensures { IfOk result (λ table. (q : ℕ) → listed table.slots.items q ≡ None) }
     {
@@ -239,6 +242,7 @@ impl<V: Copy + Drop> Sparse<V> {
         slots.resize(homes + homes.min(MARGIN), Slot::Empty)?;
         Ok(Sparse {
             slots,
+            hashing: *hashing,
             homes,
             rows: 0,
         })
@@ -255,7 +259,7 @@ impl<V: Copy + Drop> Sparse<V> {
     // The same at the place where a look-up of the number ends.
     #[inline]
     fn put_at(&mut self, at: usize, number: u32, value: V) -> Result<(), AllocError>
-        requires place { IsPlaceOf self.old.slots.items self.old.homes number at }
+        requires place { IsPlaceOf self.old.slots.items self.old.hashing self.old.homes number at }
         requires within { at < 2 ^ 63 }
         ensures put { OnOk result ((q : ℕ) → listed self.new.slots.items q ≡ (if nat_eq number q then Some value else listed self.old.slots.items q)) }
         ensures same { OnErr result ((q : ℕ) → listed self.new.slots.items q ≡ listed self.old.slots.items q) }
@@ -264,19 +268,6 @@ impl<V: Copy + Drop> Sparse<V> {
         self.slots[at] = Slot::Row { value, number };
         Ok(())
     }
-}
-
-// A number's hash is its product with 2^32 over the golden ratio. Its home is as far among all homes as the hash is among
-// all hashes.
-#[inline]
-#[tactic(auto, using(crate::proofs::Homes::hash_times, crate::proofs::Homes::home_within), unfolding(crate::specs::Sparse::home_of))]
-pub fn home(number: u32, homes: usize) -> usize
-    requires { homes ≤ 2 ^ 32 }
-    ensures home { result ≡ home_of number homes }
-    ensures within { result < 2 ^ 32 }
-{
-    let hash = number.wrapping_mul(0x9E37_79B1) as u64;
-    (hash * homes as u64 >> 32) as usize
 }
 
 // How many rows so many homes may have: somewhat more than they are made for, since what is expected may not be exact.

@@ -1,7 +1,8 @@
 //! Each call once with ample memory.
 
 use crate::{
-    Forecast, Glance, Numbered, SHELVES, Shelves, has_row, hashed, make_row, set_row, value_at,
+    Forecast, Glance, Hashing, Numbered, SHELVES, Shelves, has_row, hashed, make_row, set_row,
+    value_at,
 };
 use std::collections::{BTreeMap, HashMap};
 use std::test::Fail;
@@ -42,7 +43,7 @@ fn rows_by_hashes_read_as_missing_ones_until_they_are_set(rt: HostRuntime) -> Re
 
 #[test]
 fn small_and_great_numbers_have_rows_of_one_table(rt: HostRuntime) -> Result<(), Fail> {
-    let mut table: Numbered<u64> = Numbered::new(rt.alloc());
+    let mut table: Numbered<u64> = Numbered::new(rt.alloc(), &Hashing::seeded(1));
     for number in [5, 1_048_575, 1_048_576, u32::MAX] {
         assert_eq!(rt; table.get(number).unwrap_or(3), 3);
         table.make(number, 3)?;
@@ -78,7 +79,7 @@ fn great(place: u32) -> u32 {
 
 #[test]
 fn great_numbers_keep_their_rows_while_the_table_grows(rt: HostRuntime) -> Result<(), Fail> {
-    let mut table: Numbered<u64> = Numbered::new(rt.alloc());
+    let mut table: Numbered<u64> = Numbered::new(rt.alloc(), &Hashing::seeded(1));
     for place in 0..4000 {
         let number = great(place);
         assert_eq!(rt; table.get(number), None);
@@ -119,7 +120,7 @@ fn great_numbers_keep_their_rows_while_the_table_grows(rt: HostRuntime) -> Resul
 
 #[test]
 fn numbers_on_shelves_wait_until_they_are_cleared(rt: HostRuntime) -> Result<(), Fail> {
-    let mut shelves = Shelves::new(rt.alloc());
+    let mut shelves = Shelves::new(rt.alloc(), &Hashing::seeded(1));
     assert!(rt; shelves.is_empty());
     for place in 0..1000 {
         shelves.put(great(place))?;
@@ -148,7 +149,7 @@ fn numbers_on_shelves_wait_until_they_are_cleared(rt: HostRuntime) -> Result<(),
 
 #[test]
 fn a_list_in_use_takes_the_numbers_behind_it(rt: HostRuntime) -> Result<(), Fail> {
-    let mut table: Numbered<u32> = Numbered::new(rt.alloc());
+    let mut table: Numbered<u32> = Numbered::new(rt.alloc(), &Hashing::seeded(1));
     for place in 0..1 << 18 {
         table.make(4 * place + 3, 0)?;
         table.set(4 * place + 3, place);
@@ -165,5 +166,26 @@ fn a_list_in_use_takes_the_numbers_behind_it(rt: HostRuntime) -> Result<(), Fail
     assert_eq!(rt; table.get(limit + 1), None);
     assert_eq!(rt; table.get(2 * limit), Some(8));
     assert_eq!(rt; table.get(4 * limit), Some(0));
+    Ok(())
+}
+
+#[test]
+fn numbers_whose_products_are_close_have_homes_far_apart(rt: HostRuntime) -> Result<(), Fail> {
+    // The products of these with 2^32 over the golden ratio count up from 0.
+    const STEP: u32 = 244_002_641;
+    for seed in 0..4 {
+        let hashing = Hashing::seeded(seed);
+        let mut counts = Vec::new(rt.alloc());
+        counts.resize(SHELVES, 0u32)?;
+        for product in 0..2000u32 {
+            let home = hashing.home(product.wrapping_mul(STEP), SHELVES);
+            match counts.get_mut(home) {
+                Some(count) => *count = count.wrapping_add(1),
+                None => assert!(rt; false),
+            }
+        }
+        assert!(rt; counts.iter().all(|count| *count < 16));
+    }
+    assert!(rt; Hashing::seeded(1).home(5, SHELVES) != Hashing::seeded(2).home(5, SHELVES));
     Ok(())
 }

@@ -11,7 +11,7 @@ use Rattle.std.proofs.lemmas.List.Elements.{All-from_recursion, recursion_from_A
 use Rattle.cw_types.specs.declared.ids.PartKey.{PartKey}
 use Rattle.cw_types.specs.declared.ids.PartKey.TheVariants.{Raw, File, Seq, Sink}
 use Rattle.cw_txn.specs.declared.entry.Entry.{Entry}
-use Rattle.cw_txn.specs.declared.parts.History.{History}
+use Rattle.cw_txn.specs.declared.history.History.{History}
 use Rattle.cw_types.specs.Same.{same_part, connector_of, part_eq}
 use Rattle.cw_txn.specs.History.{history, end_of, unset}
 use Rattle.cw_txn.specs.Transactions.{ArePartsOf}

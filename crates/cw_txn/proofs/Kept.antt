@@ -7,7 +7,7 @@ use Rattle.cw_types.specs.declared.ids.PartKey.{PartKey}
 use Rattle.cw_types.specs.declared.ids.Span.{Span}
 use Rattle.cw_txn.specs.declared.entry.Entry.{Entry}
 use Rattle.cw_txn.specs.declared.entry.Entry.TheVariants.{Bump, Commit}
-use Rattle.cw_txn.specs.declared.parts.History.{History}
+use Rattle.cw_txn.specs.declared.history.History.{History}
 use Rattle.cw_txn.specs.declared.tables.Tables.{Tables}
 use Rattle.cw_types.specs.Same.{same_tid, same_tag}
 use Rattle.cw_txn.specs.Legal.{is_commit_of, is_committed}

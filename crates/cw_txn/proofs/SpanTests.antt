@@ -6,7 +6,7 @@ use Rattle.cw_types.specs.declared.ids.Tag.{Tag}
 use Rattle.cw_types.specs.declared.ids.Span.{Span}
 use Rattle.cw_txn.specs.declared.entry.Entry.{Entry}
 use Rattle.cw_txn.specs.declared.entry.Entry.TheVariants.{Commit}
-use Rattle.cw_txn.specs.declared.parts.History.{History}
+use Rattle.cw_txn.specs.declared.history.History.{History}
 use Rattle.cw_types.specs.Same.{same_part}
 use Rattle.cw_txn.specs.History.{GoesOn, SpansChain, after_span}
 use Rattle.cw_txn.specs.declared.parts.Parts.{Parts}

@@ -3,7 +3,7 @@ use Rattle.std.specs.Prelude.{Option, IsSome, unwrap_or}
 use Rattle.std.specs.HashMap.{get}
 use Rattle.cw_types.specs.declared.ids.PartKey.{PartKey}
 use Rattle.cw_types.specs.declared.ids.PartKey.TheVariants.{Raw, File, Seq, Sink}
-use Rattle.cw_txn.specs.declared.parts.History.{History}
+use Rattle.cw_txn.specs.declared.history.History.{History}
 use Rattle.cw_txn.specs.declared.parts.Parts.{Parts}
 use Rattle.cw_types.specs.Same.{part_eq}
 use Rattle.cw_txn.specs.History.{unset}

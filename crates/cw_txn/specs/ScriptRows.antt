@@ -5,14 +5,14 @@ use Rattle.std.specs.HashMap.{get}
 use Rattle.cw_types.specs.declared.ids.PartKey.TheVariants.{Raw}
 use Rattle.cw_types.specs.Same.{part_eq}
 use Rattle.cw_tables.specs.Numbered.{numbered_row}
-use Rattle.cw_txn.specs.declared.parts.History.{History}
-use Rattle.cw_txn.specs.declared.script_parts.Short.{Short}
-use Rattle.cw_txn.specs.declared.script_parts.Short.TheVariants.{Unset, Ended, Elsewhere}
+use Rattle.cw_txn.specs.declared.history.History.{History}
+use Rattle.cw_txn.specs.declared.script_parts.ShortHistory.{ShortHistory}
+use Rattle.cw_txn.specs.declared.script_parts.ShortHistory.TheVariants.{Unset, Ended, Elsewhere}
 use Rattle.cw_txn.specs.declared.script_parts.ScriptParts.{ScriptParts}
 use Rattle.cw_txn.specs.History.{unset}
 
 -- the history that a short one stands for, with the one that stands elsewhere
-abbrev pub short_history : Short → Option History → History
+abbrev pub short_history : ShortHistory → Option History → History
 short_history Unset whole = unset
 short_history (Ended to) whole = record { base = 0; end = Some (from_be_bytes w64 to) }
 short_history Elsewhere whole = unwrap_or whole unset

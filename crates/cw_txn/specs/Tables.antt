@@ -9,7 +9,7 @@ use Rattle.cw_txn.specs.declared.entry.Entry.{Entry}
 use Rattle.cw_txn.specs.declared.entry.Entry.TheVariants.{Bump, Commit, Set}
 use Rattle.cw_txn.specs.declared.entry.EntryRef.{EntryRef}
 use Rattle.cw_txn.specs.declared.entry.EntryRef.TheVariants.{Bump as BumpRef, Commit as CommitRef, Set as SetRef}
-use Rattle.cw_txn.specs.declared.parts.History.{History}
+use Rattle.cw_txn.specs.declared.history.History.{History}
 use Rattle.cw_txn.specs.EpochRows.{epoch_row, epoch_at}
 use Rattle.cw_txn.specs.PartRows.{history_at, HasPart, CanSet, KeepsParts}
 use Rattle.cw_txn.specs.declared.tables.Tables.{Tables}

@@ -20,7 +20,7 @@ use cw_types::{Epoch, Name, PartKey, Span, Tag, Tid};
 use std::alloc::{AllocError, Global};
 use std::collections::HashMap;
 
-// Whether an entry may stand at this place, behind those of the tables and the bumps that wait.
+/// Whether an entry may stand at this place, behind those of the tables and the bumps that wait.
 pub fn is_allowed(
     alloc: Global,
     tables: &Tables,

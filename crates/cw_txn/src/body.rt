@@ -181,6 +181,7 @@ fn read_set_entry(alloc: Global, from: &mut Reader<'_>) -> Result<Entry, FieldFa
     Ok(Entry::Set { tid, epoch, list })
 }
 
+/// One entry.
 #[tactic(auto, unfolding(crate::specs::BodyReading::entry_at))]
 pub fn read_entry(alloc: Global, from: &mut Reader<'_>) -> Result<Entry, FieldFault>
     ensures { Gives (λ entry. (entry, from.new)) result (entry_at from.old) }
@@ -194,8 +195,8 @@ pub fn read_entry(alloc: Global, from: &mut Reader<'_>) -> Result<Entry, FieldFa
     }
 }
 
-// The number of the script's producer that a body bumps, where it says nothing else. Logs hold most of such bodies, so
-// that they are read in one step.
+/// The number of the script's producer that a body bumps, where it says nothing else. Logs hold most of such bodies, so
+/// that they are read in one step.
 #[inline]
 #[tactic(auto, unfolding(crate::specs::BodyReading::entries_at, crate::specs::BodyReading::count_at, crate::specs::BodyReading::entry_at, crate::specs::BodyReading::bump_at, cw_bytes::specs::Reading::many_at, cw_bytes::specs::Reading::tid_at, cw_bytes::specs::Reading::raw_id_at))]
 pub fn script_bump(body: &[u8]) -> Option<u32>
@@ -207,7 +208,7 @@ pub fn script_bump(body: &[u8]) -> Option<u32>
     }
 }
 
-// How many entries a body has, which are some.
+/// How many entries a body has, which are some.
 #[tactic(auto, unfolding(crate::specs::BodyReading::count_at))]
 pub fn read_count(from: &mut Reader<'_>) -> Result<u32, FieldFault>
     ensures { Gives (λ count. (count, from.new)) result (count_at from.old) }

@@ -11,8 +11,8 @@ use cw_types::Tag;
 use std::alloc::{AllocError, Global};
 use std::collections::HashMap;
 
-// The committed transactions. Those whose numbers rise, as they do in the order of their making, stand one behind the
-// other in few bytes; the others have rows of a map, as have those for which room was made.
+/// The committed transactions. Those whose numbers rise, as they do in the order of their making, stand one behind the
+/// other in few bytes; the others have rows of a map, as have those for which room was made.
 #[derive(Drop)]
 pub struct Commits {
     rising: Vec<Risen>,
@@ -23,6 +23,7 @@ pub struct Commits {
 impl Commits {
     ghost use Rattle.cw_txn.specs.Committed.{committed_at, HasTag};
 
+    /// With no transaction.
     pub fn new(alloc: Global) -> Commits
         ensures { (q : Tag) → committed_at result q ≡ false }
     {
@@ -32,7 +33,7 @@ impl Commits {
         }
     }
 
-    // Whether the transaction is committed.
+    /// Whether the transaction is committed.
     pub fn contains(&self, tag: &Tag) -> bool
         ensures { result ≡ committed_at self.now tag.now }
     {
@@ -66,7 +67,7 @@ impl Commits {
         last.number() < number
     }
 
-    // Room for a transaction, which reads as before.
+    /// Room for a transaction, which reads as before.
     pub fn make_row(&mut self, tag: &Tag) -> Result<(), AllocError>
         ensures same { (q : Tag) → committed_at self.new q ≡ committed_at self.old q }
         ensures kept { (q : Tag) → HasTag self.old q → HasTag self.new q }
@@ -79,8 +80,8 @@ impl Commits {
         make_row(&mut self.others, tag.copy()?, false)
     }
 
-    // Commits a transaction for which there is room. A script's leaves its row for a place behind those that rise; a
-    // task's would take memory there, and keeps its row.
+    /// Commits a transaction for which there is room. A script's leaves its row for a place behind those that rise; a
+    /// task's would take memory there, and keeps its row.
     pub fn commit(&mut self, tag: &Tag)
         requires { HasTag self.old tag.now }
         ensures set { (q : Tag) → committed_at self.new q ≡ (if same_tag q tag.now then true else committed_at self.old q) }
@@ -99,7 +100,7 @@ impl Commits {
         }
     }
 
-    // Commits a transaction.
+    /// Commits a transaction.
     pub fn put(&mut self, tag: Tag) -> Result<(), AllocError>
         ensures { OnOk result ((q : Tag) → committed_at self.new q ≡ (if same_tag q tag then true else committed_at self.old q)) }
     {

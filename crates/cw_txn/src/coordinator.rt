@@ -13,11 +13,12 @@ ghost use Rattle.cw_txn.specs.Legal.{epoch_of, is_committed, IsLegal, Chains, Is
 
 use crate::entry::{Entry, EntryRef, SetOffset};
 use crate::tables::Tables;
+use cw_tables::Hashing;
 use cw_types::{Decided, Epoch, Name, PartKey, Past, Span, Tag, Tid, Verdict};
 use std::alloc::{AllocError, Global};
 use std::marker::Model;
 
-// A list has at most so many entries, counting those that are reserved, so that each epoch fits a u32.
+/// A list has at most so many entries, counting those that are reserved, so that each epoch fits a u32.
 pub const MOST_ENTRIES: u64 = 1 << 31;
 
 /// Why an entry wasn't written.
@@ -70,8 +71,8 @@ impl Model for Coordinator {
 impl Coordinator {
     ghost use Rattle.cw_txn.specs.Transactions.{Transactions, Appends, AreNext, ArePartsOf};
 
-    /// With no entry.
-    pub fn new(alloc: Global) -> Coordinator
+    /// With no entry. The seed is as for [`Replay::new`](crate::Replay::new).
+    pub fn new(alloc: Global, seed: u128) -> Coordinator
         ensures { result ≡ record { entries = []; reserved = [] } }
     {
         Coordinator {
@@ -79,7 +80,7 @@ impl Coordinator {
             entries: Past::new(),
             length: 0,
             reserved: Vec::new(alloc),
-            tables: Tables::new(alloc),
+            tables: Tables::new(alloc, &Hashing::seeded(seed)),
         }
     }
 
@@ -322,7 +323,7 @@ ghost use Rattle.cw_types.specs.declared.ids.Epoch.{Epoch};
 ghost use Rattle.cw_txn.specs.declared.entry.SetOffset.{SetOffset};
 ghost use Rattle.cw_txn.specs.Tables.{entry_of, IsFirstAt, Keeps, HasRows, KeepsRows, SameRows, IsCoordinator};
 
-// Whether no part is in two of the spans.
+/// Whether no part is in two of the spans.
 pub fn have_distinct_parts(spans: &[Span]) -> bool
     ensures { IsTrue result ↔ IsDistinct same_part (map (λ span. span.part) spans.now) }
 {
@@ -391,7 +392,7 @@ fn settle(tables: &mut Tables, entries: &mut Past<Entry>, count: &mut u64, entry
     *count += 1;
 }
 
-// The coordinator of entries whose tables these are.
+/// The coordinator of entries whose tables these are.
 pub fn coordinator_of(
     alloc: Global,
     tables: Tables,

@@ -6,12 +6,12 @@ ghost use Rattle.cw_types.specs.Same.{same_tid};
 
 use crate::late::{make_room, raise_shelves};
 use cw_tables::hashed::{has_row, make_row, value_at};
-use cw_tables::{Forecast, Numbered, Shelves};
+use cw_tables::{Forecast, Hashing, Numbered, Shelves};
 use cw_types::Tid;
 use std::alloc::{AllocError, Global};
 use std::collections::HashMap;
 
-// The epoch of each producer. Those of scripts are found by their numbers alone, which keeps their rows small.
+/// The epoch of each producer. Those of scripts are found by their numbers alone, which keeps their rows small.
 #[derive(Drop)]
 pub struct Epochs {
     pub numbered: Numbered<u32>,
@@ -22,16 +22,17 @@ impl Epochs {
     ghost use Rattle.cw_txn.specs.EpochRows.{epoch_row, epoch_at};
     ghost use Rattle.cw_txn.specs.Late.{late_of};
 
-    pub fn new(alloc: Global) -> Epochs
+    /// With no row, for numbers that are hashed so.
+    pub fn new(alloc: Global, hashing: &Hashing) -> Epochs
         ensures { (q : Tid) → epoch_row result q ≡ None }
     {
         Epochs {
-            numbered: Numbered::new(alloc),
+            numbered: Numbered::new(alloc, hashing),
             named: HashMap::new(alloc),
         }
     }
 
-    // The epoch of a producer, 0 where it has no row.
+    /// The epoch of a producer, 0 where it has no row.
     pub fn epoch(&self, tid: &Tid) -> u64
         ensures { result ≡ epoch_at self.now tid.now }
     {
@@ -42,7 +43,7 @@ impl Epochs {
         }
     }
 
-    // The epoch of a producer, with the bumps that wait.
+    /// The epoch of a producer, with the bumps that wait.
     pub fn epoch_with(&self, late: &Shelves, tid: &Tid) -> u64
         ensures { result ≡ epoch_at self.now tid.now + late_of late.now tid.now }
     {
@@ -56,15 +57,15 @@ impl Epochs {
         }
     }
 
-    // Makes room for the scripts' producers of a forecast, or for some of them. The table is as before.
+    /// Makes room for the scripts' producers of a forecast, or for some of them. The table is as before.
     pub fn make_room(&mut self, forecast: &Forecast) -> Result<(), AllocError>
         ensures { (q : Tid) → epoch_row self.new q ≡ epoch_row self.old q }
     {
         self.numbered.make_room(forecast)
     }
 
-    // Raises the epochs of the scripts' producers that wait, each as often as it does. They took so many bytes of the log,
-    // and so many are left.
+    /// Raises the epochs of the scripts' producers that wait, each as often as it does. They took so many bytes of the log,
+    /// and so many are left.
     pub fn raise_late(&mut self, late: &Shelves, taken: u64, left: u64) -> Result<(), AllocError>
         requires { (tid : Tid) → epoch_at self.old tid + late_of late.now tid < 2 ^ 32 }
         ensures { OnOk result ((tid : Tid) → epoch_at self.new tid ≡ epoch_at self.old tid + late_of late.now tid) }
@@ -73,7 +74,7 @@ impl Epochs {
         raise_shelves(&mut self.numbered, late.lists())
     }
 
-    // A row for a producer. The table reads as before.
+    /// A row for a producer. The table reads as before.
     pub fn make(&mut self, tid: &Tid) -> Result<(), AllocError>
         ensures same { (q : Tid) → epoch_at self.new q ≡ epoch_at self.old q }
         ensures kept { (q : Tid) → IsSome (epoch_row self.old q) → IsSome (epoch_row self.new q) }
@@ -86,7 +87,7 @@ impl Epochs {
         }
     }
 
-    // Raises the epoch of a producer that has a row, and says whether it has one.
+    /// Raises the epoch of a producer that has a row, and says whether it has one.
     pub fn raise(&mut self, tid: &Tid) -> bool
         requires { (q : Tid) → epoch_at self.old q + 1 < 2 ^ 32 }
         ensures there { result ≡ is_some (epoch_row self.old tid.now) }
@@ -99,7 +100,7 @@ impl Epochs {
         }
     }
 
-    // The epoch of a producer is one higher, in its row or in a new one.
+    /// The epoch of a producer is one higher, in its row or in a new one.
     pub fn put(&mut self, tid: &Tid) -> Result<(), AllocError>
         requires { (q : Tid) → epoch_at self.old q + 1 < 2 ^ 32 }
         ensures { OnOk result ((q : Tid) → epoch_at self.new q ≡ (if same_tid q tid.now then epoch_at self.old q + 1 else epoch_at self.old q)) }
@@ -138,7 +139,8 @@ fn put_name(rows: &mut HashMap<Tid, u64>, tid: &Tid) -> Result<(), AllocError>
     Ok(())
 }
 
-// Raises the epoch of a number by one, in its row or in a new one.
+/// Raises the epoch of a number by one, in its row or in a new one.
+#[inline]
 pub fn put_number(rows: &mut Numbered<u32>, number: u32) -> Result<(), AllocError>
     requires { unwrap_or (numbered_row rows.old number) 0 + 1 < 2 ^ 32 }
     ensures { OnOk result ((q : ℕ) → unwrap_or (numbered_row rows.new q) 0 ≡ unwrap_or (numbered_row rows.old q) 0 + (if nat_eq number q then 1 else 0)) }

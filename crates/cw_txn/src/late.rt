@@ -13,9 +13,9 @@ use std::alloc::{AllocError, Global};
 // is found.
 const FEW: usize = 4096;
 
-// Makes room for the numbers that wait, as far as the fullest shelf tells, which is like the others. It is made before any
-// is raised: shelf by shelf, each would fill its part of a table that seems to have room. These took so many bytes of the
-// log, and so many are left.
+/// Makes room for the numbers that wait, as far as the fullest shelf tells, which is like the others. It is made before any
+/// is raised: shelf by shelf, each would fill its part of a table that seems to have room. These took so many bytes of the
+/// log, and so many are left.
 pub fn make_room(
     rows: &mut Numbered<u32>,
     late: &Shelves,
@@ -47,7 +47,7 @@ fn fullest(shelves: &[Vec<u32>]) -> Option<&Vec<u32>> {
     shelves.iter().max_by_key(|shelf| shelf.len())
 }
 
-// Raises the epoch of each number on these shelves, as often as it is there.
+/// Raises the epoch of each number on these shelves, as often as it is there.
 pub fn raise_shelves(rows: &mut Numbered<u32>, shelves: &[Vec<u32>]) -> Result<(), AllocError>
     requires { (q : ℕ) → unwrap_or (numbered_row rows.old q) 0 + times_on q shelves.now < 2 ^ 32 }
     ensures { OnOk result ((q : ℕ) → unwrap_or (numbered_row rows.new q) 0 ≡ unwrap_or (numbered_row rows.old q) 0 + times_on q shelves.now) }

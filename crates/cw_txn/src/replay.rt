@@ -19,6 +19,7 @@ use crate::sought::{Forecasts, Sought};
 use crate::tables::Tables;
 use crate::walk::Walk;
 use cw_bytes::{FieldFault, Reader};
+use cw_tables::Hashing;
 use cw_types::{Past, Tid};
 use std::alloc::{AllocError, Global};
 use std::marker::Model;
@@ -31,6 +32,9 @@ const MOST_WAITING: usize = 256;
 
 // Bumps are put off where so many came one behind the other.
 const MANY_BUMPS: usize = 4;
+
+// Behind so many bumps the entries before them wait no longer.
+const MANY_BEHIND: usize = 32;
 
 /// Why the entries of a log's bodies are none that a coordinator holds.
 #[derive(Clone, Copy, Debug, PartialEq, Eq, Drop)]
@@ -59,6 +63,8 @@ impl From<AllocError> for ListFault {
 #[derive(Drop)]
 pub struct Replay {
     alloc: Global,
+    // from which it follows how numbers are hashed; nothing but speed depends on it
+    seed: u128,
     queue: Queue,
 }
 
@@ -127,14 +133,16 @@ impl Model for Replay {
 }
 
 impl Replay {
-    /// With no entry, for a log of so many bytes. From these it reckons how much room to make at once; nothing but speed
-    /// and memory depends on them.
-    pub fn new(alloc: Global, size: u64) -> Replay
+    /// With no entry, for a log of so many bytes. From these it reckons how much room to make at once. The seed tells how
+    /// numbers of producers and parts are hashed; it should be drawn at random, so that who writes a log can't choose numbers
+    /// that make its opening slow. Nothing but speed and memory depends on either.
+    pub fn new(alloc: Global, size: u64, seed: u128) -> Replay
         ensures { result ≡ record { entries = []; gates = [] } }
     {
         Replay {
             alloc,
-            queue: Queue::new(alloc, size),
+            seed,
+            queue: Queue::new(alloc, size, seed),
         }
     }
 
@@ -149,7 +157,7 @@ impl Replay {
         match self.queue.take_whole(self.alloc, body, gate) {
             Ok(_) => Ok(()),
             Err(fault) => {
-                self.queue = Queue::new(self.alloc, self.queue.walk.size);
+                self.queue = Queue::new(self.alloc, self.queue.walk.size, self.seed);
                 Err(fault)
             }
         }
@@ -167,21 +175,21 @@ impl Replay {
             (λ gate. (place : ℕ) × AreAllowed self.entries × IsFirstUnchained self.entries place × (slice_index_or self.gates place gate ≡ gate))
             ⊤) }
     {
-        let Replay { alloc, queue } = self;
+        let Replay { alloc, queue, .. } = self;
         let walk = queue.into_walk(alloc)?;
         walk.into_coordinator(alloc)
     }
 }
 
 impl Queue {
-    fn new(alloc: Global, size: u64) -> Queue
+    fn new(alloc: Global, size: u64, seed: u128) -> Queue
         ensures entries { result.walk.entries.items ≡ [] }
         ensures gates { result.walk.gates.items ≡ [] }
         ensures waiting { result.waiting.items ≡ [] }
         ensures walked { Walked result.walk }
     {
         Queue {
-            walk: Walk::new(alloc, size),
+            walk: Walk::new(alloc, size, &Hashing::seeded(seed)),
             waiting: Vec::new(alloc),
             sought: Sought::new(alloc),
             streak: Streak::LONG,
@@ -280,9 +288,22 @@ impl Queue {
         self.make_room(alloc)?;
         self.streak.go_on();
         if self.streak.is_long() && self.walk.is_late(number) {
+            self.make_way(alloc)?;
             return self.put_off(number, gate);
         }
         self.look_for(Entry::Bump(Tid::Raw(number)), gate)
+    }
+
+    // Takes those that wait where many bumps came behind them, which needn't wait for them then.
+    #[inline(always)]
+    fn make_way(&mut self, alloc: Global) -> Result<(), AllocError>
+        requires { Walked self.old.walk }
+        ensures { OnOk result (Queued [] 0 self.old self.new) }
+    {
+        if self.waiting.is_empty() || self.streak.now < MANY_BEHIND {
+            return Ok(());
+        }
+        self.take_those(alloc)
     }
 
     // One bump more, which is put off, if need be behind the entries that wait.
@@ -298,7 +319,7 @@ impl Queue {
     }
 
     // One entry more that waits for its row.
-    #[inline]
+    #[inline(always)]
     fn look_for(&mut self, entry: Entry, gate: u64) -> Result<(), AllocError>
         requires { Walked self.old.walk }
         ensures { OnOk result (Queued (entry ∷ []) gate self.old self.new) }
@@ -308,7 +329,7 @@ impl Queue {
     }
 
     // One entry more that waits behind the others.
-    #[inline]
+    #[inline(always)]
     fn wait(&mut self, entry: Entry, gate: u64, is_put_off: bool) -> Result<(), AllocError>
         requires { Walked self.old.walk }
         ensures { OnOk result (Queued (entry ∷ []) gate self.old self.new) }

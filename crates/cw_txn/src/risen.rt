@@ -6,7 +6,7 @@ use cw_types::{Epoch, Tag, Tid};
 use std::alloc::{AllocError, Global};
 use std::marker::Model;
 
-// A committed transaction as it is kept. Clauses see the transaction itself.
+/// A committed transaction as it is kept. Clauses see the transaction itself.
 #[derive(Drop)]
 pub struct Risen {
     held: Held,
@@ -36,6 +36,7 @@ enum Held {
 const _: () = prove!(size_of::<Risen>() == 24);
 
 impl Risen {
+    /// A transaction as it is kept. One of a task takes a box.
     pub fn of(alloc: Global, tag: Tag) -> Result<Risen, AllocError>
         ensures { IfOk result (λ risen. risen ≡ tag) }
     {
@@ -47,7 +48,7 @@ impl Risen {
         })
     }
 
-    // A script's transaction, which takes no memory; none for another's.
+    /// A script's transaction, which takes no memory; none for another's.
     #[inline]
     pub fn script(tag: &Tag) -> Option<Risen>
         ensures same { IfSome result (λ risen. risen ≡ tag.now) }
@@ -65,7 +66,7 @@ impl Risen {
         }
     }
 
-    // The transaction's number.
+    /// The transaction's number.
     #[inline]
     pub fn number(&self) -> u64
         ensures { result ≡ self.now.number }
@@ -76,7 +77,7 @@ impl Risen {
         }
     }
 
-    // Whether it is this one.
+    /// Whether it is this one.
     #[inline]
     pub fn is(&self, tag: &Tag) -> bool
         ensures { result ≡ same_tag tag.now self.now }

@@ -4,7 +4,7 @@ use cw_tables::{Forecast, Glance, Numbered};
 use cw_types::{PartKey, Span, Tid};
 use std::alloc::{AllocError, Global};
 
-// The numbers of the scripts' producers and parts of some entries.
+/// The numbers of the scripts' producers and parts of some entries.
 #[derive(Drop)]
 pub struct Sought {
     pub producers: Vec<u32>,
@@ -12,7 +12,7 @@ pub struct Sought {
 }
 
 impl Sought {
-    // Of no entry.
+    /// Of no entry.
     pub fn new(alloc: Global) -> Sought {
         Sought {
             producers: Vec::new(alloc),
@@ -20,13 +20,13 @@ impl Sought {
         }
     }
 
-    // How many numbers there are.
+    /// How many numbers there are.
     #[inline]
     pub fn len(&self) -> usize {
         self.producers.len().saturating_add(self.parts.len())
     }
 
-    // Those of one entry more.
+    /// Those of one entry more.
     #[inline]
     pub fn note(&mut self, entry: &Entry) -> Result<(), AllocError> {
         match entry {
@@ -39,7 +39,7 @@ impl Sought {
         }
     }
 
-    // Forgets them, and keeps their memory.
+    /// Forgets them, and keeps their memory.
     pub fn clear(&mut self) {
         self.producers.clear();
         self.parts.clear();
@@ -67,14 +67,14 @@ fn note_parts(parts: &mut Vec<u32>, spans: &[Span]) -> Result<(), AllocError> {
 // So many numbers tell which share of others is new. Where all of a few are, not too much is expected.
 const SAMPLE: usize = 64;
 
-// Looks for the rows of these numbers, and says whether they may need more room than there is.
+/// Looks for the rows of these numbers, and says whether they may need more room than there is.
 pub fn lack_room<V: Copy + Drop>(rows: &Numbered<V>, numbers: &[u32]) -> bool {
     let mut glance = Glance::NONE;
     rows.glance(numbers, &mut glance);
     rows.lacks_room(&glance)
 }
 
-// How many rows are new of so many numbers, as the first of these tell.
+/// How many rows are new of so many numbers, as the first of these tell.
 pub fn forecast_by<V: Copy + Drop>(rows: &Numbered<V>, numbers: &[u32], count: usize) -> Forecast {
     let sample = &numbers[..numbers.len().min(SAMPLE)];
     let mut forecast = Forecast::NONE;
@@ -83,7 +83,7 @@ pub fn forecast_by<V: Copy + Drop>(rows: &Numbered<V>, numbers: &[u32], count: u
     forecast
 }
 
-// How many rows of scripts' producers and parts are new of some entries, and may be behind them.
+/// How many rows of scripts' producers and parts are new of some entries, and may be behind them.
 #[derive(Clone, Copy, Drop)]
 pub struct Forecasts {
     pub producers: Forecast,
@@ -91,7 +91,7 @@ pub struct Forecasts {
 }
 
 impl Forecasts {
-    // Expects as many new rows in proportion behind entries that took so many bytes, where so many are left.
+    /// Expects as many new rows in proportion behind entries that took so many bytes, where so many are left.
     pub fn go_on(&mut self, taken: u64, left: u64) {
         self.producers.go_on(taken, left);
         self.parts.go_on(taken, left);

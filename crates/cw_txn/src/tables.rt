@@ -10,12 +10,14 @@ ghost use Rattle.cw_txn.specs.History.{after_span, after_offset, GoesOn};
 use crate::commits::Commits;
 use crate::entry::{Entry, EntryRef, SetOffset};
 use crate::epochs::Epochs;
-use crate::parts::{History, Parts};
+use crate::history::History;
+use crate::parts::Parts;
 use crate::sought::{Forecasts, Sought, forecast_by, lack_room};
+use cw_tables::Hashing;
 use cw_types::{Name, PartKey, Span, Tag, Tid};
 use std::alloc::{AllocError, Global};
 
-// The epoch of each producer, the committed transactions, and the history of each part.
+/// The epoch of each producer, the committed transactions, and the history of each part.
 #[derive(Drop)]
 pub struct Tables {
     pub epochs: Epochs,
@@ -31,35 +33,39 @@ impl Tables {
     ghost use Rattle.cw_types.specs.Same.{part_eq};
     ghost use Rattle.cw_txn.specs.Walk.{IsChainTest};
 
-    pub fn new(alloc: Global) -> Tables
+    /// Of no entry, for numbers that are hashed so.
+    pub fn new(alloc: Global, hashing: &Hashing) -> Tables
         ensures { Keeps result [] }
     {
         Tables {
-            epochs: Epochs::new(alloc),
+            epochs: Epochs::new(alloc, hashing),
             committed: Commits::new(alloc),
-            parts: Parts::new(alloc),
+            parts: Parts::new(alloc, hashing),
         }
     }
 
+    /// The epoch of a producer, 0 where it has no row.
     pub fn epoch(&self, tid: &Tid) -> u64
         ensures { result ≡ epoch_at self.now.epochs tid.now }
     {
         self.epochs.epoch(tid)
     }
 
+    /// Whether the transaction is committed.
     pub fn is_committed(&self, tag: &Tag) -> bool
         ensures { result ≡ committed_at self.now.committed tag.now }
     {
         self.committed.contains(tag)
     }
 
+    /// The history of a part.
     pub fn history(&self, part: &PartKey) -> History
         ensures { result ≡ history_at self.now.parts part.now }
     {
         self.parts.history(part)
     }
 
-    // The parts of a connector that have an end.
+    /// The parts of a connector that have an end.
     pub fn parts_of(&self, alloc: Global, connector: &Name) -> Result<Vec<PartKey>, AllocError>
         ensures listed { IfOk result (λ parts. parts.items ≡ parts_in connector.now self.now.parts.named.entries) }
         ensures unique { IsUnique part_eq self.now.parts.named }
@@ -74,14 +80,14 @@ impl Tables {
         Ok(parts)
     }
 
-    // Looks for these rows, and says whether they may need more room than there is.
+    /// Looks for these rows, and says whether they may need more room than there is.
     pub fn lacks_room(&self, sought: &Sought) -> bool {
         let producers = lack_room(&self.epochs.numbered, sought.producers.as_slice());
         let parts = lack_room(&self.parts.scripts.rows, sought.parts.as_slice());
         producers || parts
     }
 
-    // How many of these rows are new.
+    /// How many of these rows are new.
     pub fn forecasts(&self, sought: &Sought) -> Forecasts {
         let (producers, parts) = (&sought.producers, &sought.parts);
         Forecasts {
@@ -90,7 +96,7 @@ impl Tables {
         }
     }
 
-    // Makes room for the rows of the forecasts, or for some of them.
+    /// Makes room for the rows of the forecasts, or for some of them.
     pub fn make_room(&mut self, forecasts: &Forecasts) -> Result<(), AllocError>
         ensures { SameRows self.old self.new }
     {
@@ -98,7 +104,7 @@ impl Tables {
         self.parts.make_room(&forecasts.parts)
     }
 
-    // The rows that an entry changes, reading as before.
+    /// The rows that an entry changes, reading as before.
     pub fn make_rows(&mut self, entry: &EntryRef<'_>) -> Result<(), AllocError>
         ensures same { SameRows self.old self.new }
         ensures kept { KeepsRows self.old self.new }
@@ -118,8 +124,8 @@ impl Tables {
         }
     }
 
-    // One entry more, and the rows that it changes. It says whether every part chains at the entry, which is found on the
-    // way, so that each part is looked up once. An `Err` may leave a part of it.
+    /// One entry more, and the rows that it changes. It says whether every part chains at the entry, which is found on the
+    /// way, so that each part is looked up once. An `Err` may leave a part of it.
     pub fn put(&mut self, entry: &Entry) -> Result<bool, AllocError>
         requires { (tid : Tid) → epoch_at self.old.epochs tid + 1 < 2 ^ 32 }
         ensures adds { OnOk result (Adds entry.now self.old self.new) }
@@ -143,7 +149,7 @@ impl Tables {
         }
     }
 
-    // One entry more.
+    /// One entry more.
     pub fn add(&mut self, entry: &Entry)
         requires rows { HasRows self.old entry.now }
         requires small { (tid : Tid) → epoch_at self.old.epochs tid + 1 < 2 ^ 32 }
@@ -168,6 +174,7 @@ ghost use Rattle.cw_txn.specs.Tables.{is_of};
 ghost use Rattle.cw_txn.specs.Walk.{IsSpanTest};
 ghost use Rattle.std.specs.Str.{bytes_eq};
 
+/// Whether a part is one of this connector.
 pub fn is_of(part: &PartKey, connector: &Name) -> bool
     ensures { result ≡ is_of connector.now part.now }
 {
@@ -188,6 +195,7 @@ pub fn is_of(part: &PartKey, connector: &Name) -> bool
     }
 }
 
+/// Whether two names are the same.
 pub fn same_names(a: &Name, b: &Name) -> bool
     ensures { result ≡ bytes_eq a.now b.now }
 {

@@ -39,7 +39,7 @@ fn commit(
 
 #[test]
 fn fenced_producer_is_refused(rt: HostRuntime) -> Result<(), Fail> {
-    let mut txn = Coordinator::new(rt.alloc());
+    let mut txn = Coordinator::new(rt.alloc(), 1);
     let id = Tid::Raw(2);
     assert!(rt; txn.bump(&id) == Ok(Epoch(1)));
     assert!(rt; txn.bump(&id) == Ok(Epoch(2)));
@@ -72,7 +72,7 @@ fn fenced_producer_is_refused(rt: HostRuntime) -> Result<(), Fail> {
 
 #[test]
 fn set_offset_is_base_and_end_and_none_begins_anew(rt: HostRuntime) -> Result<(), Fail> {
-    let mut txn = Coordinator::new(rt.alloc());
+    let mut txn = Coordinator::new(rt.alloc(), 1);
     let connector = Name::read(rt.alloc(), b"a")?;
     let part = PartKey::File {
         connector: connector.copy()?,
@@ -125,7 +125,7 @@ fn set_offset_is_base_and_end_and_none_begins_anew(rt: HostRuntime) -> Result<()
 
 #[test]
 fn script_part_whose_offset_is_set_keeps_its_base(rt: HostRuntime) -> Result<(), Fail> {
-    let mut txn = Coordinator::new(rt.alloc());
+    let mut txn = Coordinator::new(rt.alloc(), 1);
     assert!(rt; txn.bump(&Tid::Lead) == Ok(Epoch(1)));
     // (offset that is set, end of the next commit)
     for (to, next) in [(Some(6), 10), (None, 4), (Some(u64::MAX - 1), u64::MAX)] {
@@ -143,7 +143,7 @@ fn script_part_whose_offset_is_set_keeps_its_base(rt: HostRuntime) -> Result<(),
 
 #[test]
 fn sixteen_parts_are_committed_at_once_and_none_twice(rt: HostRuntime) -> Result<(), Fail> {
-    let mut txn = Coordinator::new(rt.alloc());
+    let mut txn = Coordinator::new(rt.alloc(), 1);
     let mut spans = Vec::new(rt.alloc());
     for part in 0..16 {
         spans.push(span(part, 0, 1))?;
@@ -159,7 +159,7 @@ fn sixteen_parts_are_committed_at_once_and_none_twice(rt: HostRuntime) -> Result
 
 #[test]
 fn reserved_entries_are_written_and_given_up(rt: HostRuntime) -> Result<(), Fail> {
-    let mut txn = Coordinator::new(rt.alloc());
+    let mut txn = Coordinator::new(rt.alloc(), 1);
     let mut spans = Vec::new(rt.alloc());
     spans.push(span(3, 0, 4))?;
     txn.reserve(&Entry::Bump(Tid::Raw(1)))?;
@@ -215,7 +215,7 @@ fn list_makes_its_coordinator_or_names_its_first_fault(rt: HostRuntime) -> Resul
         ),
     ];
     for ([(epoch, number, from, to), (other, last, start, stop)], fault) in table {
-        let mut replay = Replay::new(rt.alloc(), 1000);
+        let mut replay = Replay::new(rt.alloc(), 1000, 1);
         assert!(rt; replay.take_body(&bump_body(), 16) == Ok(()));
         assert!(rt; replay.take_body(&commit_body(epoch, number, from, to), 40) == Ok(()));
         assert!(rt; replay.take_body(&commit_body(other, last, start, stop), 115) == Ok(()));
@@ -237,7 +237,7 @@ fn list_makes_its_coordinator_or_names_its_first_fault(rt: HostRuntime) -> Resul
 fn unreadable_body_is_answered_behind_any_other_and_leaves_no_entry(
     rt: HostRuntime,
 ) -> Result<(), Fail> {
-    let mut replay = Replay::new(rt.alloc(), 1000);
+    let mut replay = Replay::new(rt.alloc(), 1000, 1);
     assert!(rt; replay.take_body(&commit_body(1, 0, 0, 5), 16) == Ok(()));
     assert!(rt; replay.take_body(&bump_body(), 90) == Ok(()));
     assert!(rt; replay.take_body(b"\x00\x00\x00\x00", 115) == Err(BodyFault::NotEntries));
@@ -271,7 +271,7 @@ fn bumps_body(alloc: Global, first: u32, count: u32) -> Result<Vec<u8>, AllocErr
 
 #[test]
 fn bumps_of_very_many_producers_wait_and_are_all_counted(rt: HostRuntime) -> Result<(), Fail> {
-    let mut replay = Replay::new(rt.alloc(), 10_000_000);
+    let mut replay = Replay::new(rt.alloc(), 10_000_000, 1);
     for group in 0..400 {
         let body = bumps_body(rt.alloc(), group % 200 * 1000, 1000)?;
         assert!(rt; replay.take_body(body.as_slice(), 16 + group as u64) == Ok(()));
@@ -324,7 +324,7 @@ fn commits_count_the_bumps_that_wait(rt: HostRuntime) -> Result<(), Fail> {
         (150_000, 1, false),
     ];
     for (place, epoch, allowed) in table {
-        let mut replay = Replay::new(rt.alloc(), 10_000_000);
+        let mut replay = Replay::new(rt.alloc(), 10_000_000, 1);
         for group in 0..150 {
             let body = bumps_body(rt.alloc(), group * 1000, 1000)?;
             assert!(rt; replay.take_body(body.as_slice(), 16) == Ok(()));
@@ -381,7 +381,7 @@ fn sets_are_of_distinct_parts_of_their_producers_connector(rt: HostRuntime) -> R
     ];
     for (lead, parts, allowed) in table {
         let body = sinks_body(rt.alloc(), lead, &parts)?;
-        let mut replay = Replay::new(rt.alloc(), 1000);
+        let mut replay = Replay::new(rt.alloc(), 1000, 1);
         assert!(rt; replay.take_body(body.as_slice(), 16) == Ok(()));
         match replay.into_coordinator() {
             Ok(txn) => {

@@ -13,7 +13,7 @@ use crate::entry::Entry;
 use crate::replay::ListFault;
 use crate::sought::Forecasts;
 use crate::tables::Tables;
-use cw_tables::Shelves;
+use cw_tables::{Hashing, Shelves};
 use cw_types::{Past, Tid};
 use std::alloc::{AllocError, Global};
 
@@ -26,9 +26,9 @@ const MOST_LATE: usize = 1 << 22;
 // So many looks at the bumps that wait take no longer than one of them will.
 const LOOKS_A_BUMP: usize = 8;
 
-// The entries so far and the gate of each, which are ghost data, and what was found in them: their number, the gate of
-// the first that isn't allowed and of the first that doesn't chain, and the tables as long as all are allowed. These lag
-// by bumps of scripts' producers that wait, so that rows which lie near one another are raised together.
+/// The entries so far and the gate of each, which are ghost data, and what was found in them: their number, the gate of
+/// the first that isn't allowed and of the first that doesn't chain, and the tables as long as all are allowed. These lag
+/// by bumps of scripts' producers that wait, so that rows which lie near one another are raised together.
 #[derive(Drop)]
 pub struct Walk {
     pub tables: Tables,
@@ -48,15 +48,15 @@ pub struct Walk {
 impl Walk {
     ghost use Rattle.cw_tables.specs.Waiting.{waits};
 
-    // With no entry, for a log of so many bytes.
-    pub fn new(alloc: Global, size: u64) -> Walk
+    /// With no entry, for a log of so many bytes, with tables that hash numbers so.
+    pub fn new(alloc: Global, size: u64, hashing: &Hashing) -> Walk
         ensures entries { result.entries.items ≡ [] }
         ensures gates { result.gates.items ≡ [] }
         ensures walked { Walked result }
     {
         Walk {
-            tables: Tables::new(alloc),
-            late: Shelves::new(alloc),
+            tables: Tables::new(alloc, hashing),
+            late: Shelves::new(alloc, hashing),
             entries: Past::new(),
             gates: Past::new(),
             length: 0,
@@ -68,7 +68,7 @@ impl Walk {
         }
     }
 
-    // Makes room for the rows of the forecasts, or for some of them.
+    /// Makes room for the rows of the forecasts, or for some of them.
     pub fn make_room(&mut self, forecasts: &Forecasts) -> Result<(), AllocError>
         requires { Walked self.old }
         ensures { TookAll [] self.old self.new }
@@ -76,7 +76,7 @@ impl Walk {
         self.tables.make_room(forecasts)
     }
 
-    // Whether a bump of this producer should wait. Nothing but speed depends on it.
+    /// Whether a bump of this producer should wait. Nothing but speed depends on it.
     pub fn is_late(&self, number: u32) -> bool {
         !self.late.is_empty() || self.tables.epochs.numbered.is_far(number)
     }
@@ -88,7 +88,7 @@ impl Walk {
         rows.max(FEW_LATE).min(MOST_LATE)
     }
 
-    // A bump more of a script's producer, which waits.
+    /// A bump more of a script's producer, which waits.
     pub fn put_off(&mut self, number: u32, gate: u64) -> Result<(), AllocError>
         requires { Walked self.old }
         ensures { OnOk result (Took (Entry.Bump (Tid.Raw number) ∷ []) gate self.old self.new) }
@@ -140,7 +140,7 @@ impl Walk {
         Ok(())
     }
 
-    // One entry more. Its producer's bumps that wait are looked for where that costs little, else none waits any more.
+    /// One entry more. Its producer's bumps that wait are looked for where that costs little, else none waits any more.
     pub fn take(&mut self, alloc: Global, entry: &Entry, gate: u64) -> Result<(), AllocError>
         requires { Walked self.old }
         ensures { OnOk result (Took (entry.now ∷ []) gate self.old self.new) }
@@ -175,7 +175,7 @@ impl Walk {
         Ok(())
     }
 
-    // The coordinator of the entries, or the gate of the first that has a fault.
+    /// The coordinator of the entries, or the gate of the first that has a fault.
     pub fn into_coordinator(self, alloc: Global) -> Result<Coordinator, ListFault>
         requires { Walked self }
         ensures entries { IfOk result (λ c. c ≡ record { entries = self.entries.items; reserved = [] }) }

@@ -34,10 +34,10 @@ returns-clause-count c =
     (ap length c.in_ok-push.ensures.items ∙ length-append c.index_mut.result.now.items (c.args.number ∷ []))
 
 pub returns-clause-placed : goal.returns-clause-placed
-returns-clause-placed c own placed =
-    placed_put c.args.shelves.now.items c.args.shelf c.args.number c.index_mut.result.now c.push.new.self c.requires (sym c.index_mut.ensures.value) c.in_ok-push.ensures.items own placed
+returns-clause-placed c hashing own placed =
+    placed_put hashing c.args.shelves.now.items c.args.shelf c.args.number c.index_mut.result.now c.push.new.self c.requires (sym c.index_mut.ensures.value) c.in_ok-push.ensures.items own placed
 
 pub returns-in_err-push-clause-placed : goal.returns-in_err-push-clause-placed
-returns-in_err-push-clause-placed c own placed =
-    placed_same c.args.shelves.now.items (slice_set c.args.shelves.now.items c.args.shelf c.push.new.self)
+returns-in_err-push-clause-placed c hashing own placed =
+    placed_same hashing c.args.shelves.now.items (slice_set c.args.shelves.now.items c.args.shelf c.push.new.self)
     (set_same c.args.shelves.now.items c.args.shelf c.index_mut.result.now c.push.new.self c.requires (sym c.index_mut.ensures.value) c.in_err-push.ensures.items) placed

@@ -3,7 +3,7 @@ use Rattle.std.specs.List.{fold}
 use Rattle.std.proofs.lemmas.List.{take_more}
 use Rattle.std.proofs.lemmas.List.Sums.{fold-append}
 use Rattle.cw_types.specs.declared.ids.Span.{Span}
-use Rattle.cw_txn.specs.declared.parts.History.{History}
+use Rattle.cw_txn.specs.declared.history.History.{History}
 use Rattle.cw_txn.specs.History.{after_span}
 use Rattle.cw_txn.specs.PartRows.{history_at}
 use Rattle.cw_txn.specs.Walk.{IsSpanTest}

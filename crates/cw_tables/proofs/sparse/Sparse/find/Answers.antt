@@ -8,4 +8,4 @@ pub returns-clause-row : goal.returns-clause-row
 returns-clause-row g c =
     c.value_at.ensures
     ∙ ap (λ (l : List (Slot g.row.V.Denot)). value_in (slot_at l c.place_of-at.result)) c.deref.ensures.value
-    ∙ sym (listed_here c.args.self.now.slots.items c.args.self.now.homes c.args.number c.place_of-at.result c.args.self.now.reached c.place_of-at.ensures.place)
+    ∙ sym (listed_here c.args.self.now.slots.items c.args.self.now.hashing c.args.self.now.homes c.args.number c.place_of-at.result c.args.self.now.reached c.place_of-at.ensures.place)

@@ -7,19 +7,19 @@ use Rattle.cw_tables.proofs.sparse.Sparse.get_mut.Goals as goal
 
 pub invariant_of-self-lent : goal.invariant_of-self-lent
 invariant_of-self-lent g c r = (
-  (λ w. (c.args.self.now.few, (reached_lent c.args.self.now.slots.items c.args.self.now.homes c.args.number c.place_of-at.result c.args.self.now.reached c.place_of-at.ensures.place w (c.value_at_mut.follows.lender w).items (c.value_at_mut.follows.holds w), tt))),
-  (c.args.self.now.few, (subst (λ (l : List (Slot g.row.V.Denot)). AllReached l c.args.self.now.homes) (sym c.value_at_mut.follows.holds-at-none) c.args.self.now.reached, tt)),
+  (λ w. (c.args.self.now.few, (reached_lent c.args.self.now.slots.items c.args.self.now.hashing c.args.self.now.homes c.args.number c.place_of-at.result c.args.self.now.reached c.place_of-at.ensures.place w (c.value_at_mut.follows.lender w).items (c.value_at_mut.follows.holds w), tt))),
+  (c.args.self.now.few, (subst (λ (l : List (Slot g.row.V.Denot)). AllReached l c.args.self.now.hashing c.args.self.now.homes) (sym c.value_at_mut.follows.holds-at-none) c.args.self.now.reached, tt)),
 )
 
 pub returns : goal.returns
 returns g c = (
   (
     refl,
-    (λ w. listed_lent c.args.self.now.slots.items c.args.self.now.homes c.args.number c.place_of-at.result c.args.self.now.reached c.place_of-at.ensures.place w (c.value_at_mut.follows.lender w).items (c.value_at_mut.follows.holds w)),
+    (λ w. listed_lent c.args.self.now.slots.items c.args.self.now.hashing c.args.self.now.homes c.args.number c.place_of-at.result c.args.self.now.reached c.place_of-at.ensures.place w (c.value_at_mut.follows.lender w).items (c.value_at_mut.follows.holds w)),
     (λ q. ap (λ (l : List (Slot g.row.V.Denot)). listed l q) c.value_at_mut.follows.holds-at-none),
   ),
   record {
     writes_back = tt;
-    value = c.value_at_mut.ensures.value ∙ sym (listed_here c.args.self.now.slots.items c.args.self.now.homes c.args.number c.place_of-at.result c.args.self.now.reached c.place_of-at.ensures.place);
+    value = c.value_at_mut.ensures.value ∙ sym (listed_here c.args.self.now.slots.items c.args.self.now.hashing c.args.self.now.homes c.args.number c.place_of-at.result c.args.self.now.reached c.place_of-at.ensures.place);
   },
 )

@@ -11,8 +11,8 @@ returns-in_err-reach-clause-same g c =
 
 pub returns-clause-put : goal.returns-clause-put
 returns-clause-put g c q =
-    listed_set c.reach.new.slots.items c.args.self.now.homes c.args.number c.args.at
-    (reached_same c.args.self.now.slots.items c.reach.new.slots.items c.args.self.now.homes c.reach.ensures.same c.args.self.now.reached)
-    (place_same c.args.self.now.slots.items c.reach.new.slots.items c.args.self.now.homes c.reach.ensures.same c.args.number c.args.at c.requires.place)
+    listed_set c.reach.new.slots.items c.args.self.now.hashing c.args.self.now.homes c.args.number c.args.at
+    (reached_same c.args.self.now.slots.items c.reach.new.slots.items c.args.self.now.hashing c.args.self.now.homes c.reach.ensures.same c.args.self.now.reached)
+    (place_same c.args.self.now.slots.items c.reach.new.slots.items c.args.self.now.hashing c.args.self.now.homes c.reach.ensures.same c.args.number c.args.at c.requires.place)
     c.args.value c.in_ok-reach.ensures.there q
     ∙ ap (λ (o : Option g.row.V.Denot). cond (nat_eq c.args.number q) (Some c.args.value) o) (listed_same c.reach.new.slots.items c.args.self.now.slots.items c.reach.ensures.same q)
