@@ -173,7 +173,7 @@ fn a_list_in_use_takes_the_numbers_behind_it(rt: HostRuntime) -> Result<(), Fail
 fn numbers_whose_products_are_close_have_homes_far_apart(rt: HostRuntime) -> Result<(), Fail> {
     // The products of these with 2^32 over the golden ratio count up from 0.
     const STEP: u32 = 244_002_641;
-    for seed in 0..4 {
+    for seed in [0, 1, 2, 3] {
         let hashing = Hashing::seeded(seed);
         let mut counts = Vec::new(rt.alloc());
         counts.resize(SHELVES, 0u32)?;

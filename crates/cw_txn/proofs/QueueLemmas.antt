@@ -9,7 +9,7 @@ use Rattle.cw_txn.specs.Replayed.{Replayed, TakesBody}
 use Rattle.cw_txn.specs.declared.entry.Entry.{Entry}
 use Rattle.cw_txn.specs.declared.walk.Walk.{Walk}
 use Rattle.cw_txn.specs.declared.replay.Queue.{Queue}
-use Rattle.cw_txn.specs.declared.replay.Waiting.{Waiting}
+use Rattle.cw_txn.specs.Waiting.{WaitingEntry}
 use Rattle.cw_txn.specs.declared.tables.Tables.{Tables}
 use Rattle.cw_tables.specs.declared.shelves.Shelves.{Shelves}
 use Rattle.cw_txn.specs.Tables.{SameRows}
@@ -23,7 +23,7 @@ map_push f [] x = refl
 map_push f (y ∷ xs) x = ap (λ l. f y ∷ l) (map_push f xs x)
 
 -- a list of which the last is behind those of another
-behind : {X : Type 0} (first : List X) (f : Waiting → X) (waiting : List Waiting) (w : Waiting) → first ++ map f (waiting ++ w ∷ []) ≡ (first ++ map f waiting) ++ f w ∷ []
+behind : {X : Type 0} (first : List X) (f : WaitingEntry → X) (waiting : List WaitingEntry) (w : WaitingEntry) → first ++ map f (waiting ++ w ∷ []) ≡ (first ++ map f waiting) ++ f w ∷ []
 behind first f waiting w = ap (λ l. first ++ l) (map_push f waiting w) ∙ sym (append_assoc first (map f waiting) (f w ∷ []))
 
 -- nothing more
@@ -39,12 +39,12 @@ queued_taken old new took none = record {
 }
 
 -- one more waits behind the others
-pub queued_push : (old mid new : Queue) (w : Waiting) → Queued [] 0 old mid → new.walk ≡ mid.walk → new.waiting.items ≡ mid.waiting.items ++ w ∷ [] → Queued (w.entry ∷ []) w.gate old new
+pub queued_push : (old mid new : Queue) (w : WaitingEntry) → Queued [] 0 old mid → new.walk ≡ mid.walk → new.waiting.items ≡ mid.waiting.items ++ w ∷ [] → Queued (w.entry ∷ []) w.gate old new
 queued_push old mid new w same walk push = record {
   entries = ap (λ (x : Walk). x.entries.items ++ entries_of new.waiting.items) walk ∙ ap (λ l. mid.walk.entries.items ++ entries_of l) push
-      ∙ behind mid.walk.entries.items (λ (x : Waiting). x.entry) mid.waiting.items w ∙ ap (λ l. l ++ w.entry ∷ []) (same.entries ∙ append-nil (queue_entries old));
+      ∙ behind mid.walk.entries.items (λ (x : WaitingEntry). x.entry) mid.waiting.items w ∙ ap (λ l. l ++ w.entry ∷ []) (same.entries ∙ append-nil (queue_entries old));
   gates = ap (λ (x : Walk). x.gates.items ++ gates_of new.waiting.items) walk ∙ ap (λ l. mid.walk.gates.items ++ gates_of l) push
-      ∙ behind mid.walk.gates.items (λ (x : Waiting). x.gate) mid.waiting.items w ∙ ap (λ l. l ++ w.gate ∷ []) (same.gates ∙ append-nil (queue_gates old));
+      ∙ behind mid.walk.gates.items (λ (x : WaitingEntry). x.gate) mid.waiting.items w ∙ ap (λ l. l ++ w.gate ∷ []) (same.gates ∙ append-nil (queue_gates old));
   walked = subst Walked (sym walk) same.walked;
 }
 
@@ -104,11 +104,11 @@ took_same walk tables walked same = record {
 }
 
 -- the next is taken
-pub took_next : (waiting : List Waiting) (i : ℕ) (w : Waiting) (old mid new : Walk) → take (i + 1) waiting ≡ take i waiting ++ w ∷ [] → TookAll (take i waiting) old mid → Took (w.entry ∷ []) w.gate mid new
+pub took_next : (waiting : List WaitingEntry) (i : ℕ) (w : WaitingEntry) (old mid new : Walk) → take (i + 1) waiting ≡ take i waiting ++ w ∷ [] → TookAll (take i waiting) old mid → Took (w.entry ∷ []) w.gate mid new
     → TookAll (take (i + 1) waiting) old new
 took_next waiting i w old mid new more took one = record {
-  entries = one.entries ∙ ap (λ l. l ++ w.entry ∷ []) took.entries ∙ sym (behind old.entries.items (λ (x : Waiting). x.entry) (take i waiting) w) ∙ ap (λ l. old.entries.items ++ entries_of l) (sym more);
-  gates = one.gates ∙ ap (λ l. l ++ w.gate ∷ []) took.gates ∙ sym (behind old.gates.items (λ (x : Waiting). x.gate) (take i waiting) w) ∙ ap (λ l. old.gates.items ++ gates_of l) (sym more);
+  entries = one.entries ∙ ap (λ l. l ++ w.entry ∷ []) took.entries ∙ sym (behind old.entries.items (λ (x : WaitingEntry). x.entry) (take i waiting) w) ∙ ap (λ l. old.entries.items ++ entries_of l) (sym more);
+  gates = one.gates ∙ ap (λ l. l ++ w.gate ∷ []) took.gates ∙ sym (behind old.gates.items (λ (x : WaitingEntry). x.gate) (take i waiting) w) ∙ ap (λ l. old.gates.items ++ gates_of l) (sym more);
   walked = one.walked;
 }
 

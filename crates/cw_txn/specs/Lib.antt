@@ -13,5 +13,6 @@ pub mod Body
 pub mod BodyReading
 pub mod Replayed
 pub mod Walk
+pub mod Waiting
 pub mod Queue
 pub mod Late

@@ -3,15 +3,15 @@ use Rattle.std.specs.Prelude.{◌≡◌, ℕ, List, ◌++◌, map, length, repli
 use Rattle.cw_txn.specs.declared.entry.Entry.{Entry}
 use Rattle.cw_txn.specs.declared.walk.Walk.{Walk}
 use Rattle.cw_txn.specs.declared.replay.Queue.{Queue}
-use Rattle.cw_txn.specs.declared.replay.Waiting.{Waiting}
+use Rattle.cw_txn.specs.Waiting.{WaitingEntry}
 use Rattle.cw_txn.specs.Walk.{Walked}
 
 -- the entries that wait, and the gate of each
-abbrev pub entries_of : List Waiting → List Entry
-entries_of waiting = map (λ (w : Waiting). w.entry) waiting
+abbrev pub entries_of : List WaitingEntry → List Entry
+entries_of waiting = map (λ (w : WaitingEntry). w.entry) waiting
 
-abbrev pub gates_of : List Waiting → List ℕ
-gates_of waiting = map (λ (w : Waiting). w.gate) waiting
+abbrev pub gates_of : List WaitingEntry → List ℕ
+gates_of waiting = map (λ (w : WaitingEntry). w.gate) waiting
 
 -- all entries of a queue: those taken, and behind them those that wait
 abbrev pub queue_entries : Queue → List Entry
@@ -28,7 +28,7 @@ pub record Queued (group : List Entry) (gate : ℕ) (old new : Queue) : Type 0 w
   pub walked : Walked new.walk
 
 -- a walk took these
-pub record TookAll (waiting : List Waiting) (old new : Walk) : Type 0 where
+pub record TookAll (waiting : List WaitingEntry) (old new : Walk) : Type 0 where
   pub entries : new.entries.items ≡ old.entries.items ++ entries_of waiting
   pub gates : new.gates.items ≡ old.gates.items ++ gates_of waiting
   pub walked : Walked new

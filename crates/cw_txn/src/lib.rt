@@ -23,6 +23,7 @@ mod sought;
 mod tables;
 #[cfg(test)]
 mod tests;
+mod waiting;
 mod walk;
 
 pub use body::{BodyFault, read_entries, write_entries};

@@ -17,6 +17,7 @@ use crate::coordinator::Coordinator;
 use crate::entry::Entry;
 use crate::sought::{Forecasts, Sought};
 use crate::tables::Tables;
+use crate::waiting::Waiting;
 use crate::walk::Walk;
 use cw_bytes::{FieldFault, Reader};
 use cw_tables::Hashing;
@@ -76,14 +77,6 @@ struct Queue {
     // the rows that are looked for, and how bumps came; nothing but speed and memory depends on them
     sought: Sought,
     streak: Streak,
-}
-
-// An entry that is read, and the gate of its frame. Its row is looked for, or it is a bump that is put off.
-#[derive(Drop)]
-struct Waiting {
-    entry: Entry,
-    gate: u64,
-    is_put_off: bool,
 }
 
 // How many bumps came one behind the other: since the last other entry, and before that. Nothing but speed depends on it.
@@ -276,7 +269,8 @@ impl Queue {
         }
         self.make_room(alloc)?;
         self.streak.end();
-        self.look_for(entry, gate)
+        self.sought.note(&entry)?;
+        self.wait(Waiting::entry(alloc, entry, gate)?)
     }
 
     // One bump more of a script's producer, which is put off where its row is far off or other bumps wait already.
@@ -291,7 +285,8 @@ impl Queue {
             self.make_way(alloc)?;
             return self.put_off(number, gate);
         }
-        self.look_for(Entry::Bump(Tid::Raw(number)), gate)
+        self.sought.note_bump(number)?;
+        self.wait(Waiting::bump(number, gate))
     }
 
     // Takes those that wait where many bumps came behind them, which needn't wait for them then.
@@ -315,30 +310,16 @@ impl Queue {
         if self.waiting.is_empty() {
             return self.walk.put_off(number, gate);
         }
-        self.wait(Entry::Bump(Tid::Raw(number)), gate, true)
-    }
-
-    // One entry more that waits for its row.
-    #[inline(always)]
-    fn look_for(&mut self, entry: Entry, gate: u64) -> Result<(), AllocError>
-        requires { Walked self.old.walk }
-        ensures { OnOk result (Queued (entry ∷ []) gate self.old self.new) }
-    {
-        self.sought.note(&entry)?;
-        self.wait(entry, gate, false)
+        self.wait(Waiting::put_off(number, gate))
     }
 
     // One entry more that waits behind the others.
     #[inline(always)]
-    fn wait(&mut self, entry: Entry, gate: u64, is_put_off: bool) -> Result<(), AllocError>
+    fn wait(&mut self, next: Waiting) -> Result<(), AllocError>
         requires { Walked self.old.walk }
-        ensures { OnOk result (Queued (entry ∷ []) gate self.old self.new) }
+        ensures { OnOk result (Queued (next.entry ∷ []) next.gate self.old self.new) }
     {
-        self.waiting.push(Waiting {
-            entry,
-            gate,
-            is_put_off,
-        })?;
+        self.waiting.push(next)?;
         Ok(())
     }
 
@@ -386,8 +367,6 @@ impl Queue {
     }
 }
 
-ghost use Rattle.cw_txn.specs.declared.replay.Waiting.{Waiting};
-
 // The number of a script's producer that an entry bumps.
 fn bumped(entry: &Entry) -> Option<u32>
     ensures { IfSome result (λ number. entry.now ≡ Entry.Bump (Tid.Raw number)) }
@@ -403,8 +382,8 @@ fn forecasts_of(tables: &Tables, sought: &Sought, waiting: &[Waiting], size: u64
     let mut forecasts = tables.forecasts(sought);
     if let [first, .., last] = waiting {
         forecasts.go_on(
-            last.gate.saturating_sub(first.gate),
-            size.saturating_sub(last.gate),
+            last.gate().saturating_sub(first.gate()),
+            size.saturating_sub(last.gate()),
         );
     }
     forecasts
@@ -416,18 +395,7 @@ fn take_waiting(walk: &mut Walk, alloc: Global, waiting: &[Waiting]) -> Result<(
     ensures { OnOk result (TookAll waiting.now walk.old walk.new) }
 {
     for next in waiting {
-        take_one(walk, alloc, next)?;
+        next.go_on(walk, alloc)?;
     }
     Ok(())
-}
-
-// Takes an entry, or puts it off.
-fn take_one(walk: &mut Walk, alloc: Global, next: &Waiting) -> Result<(), AllocError>
-    requires { Walked walk.old }
-    ensures { OnOk result (Took (next.now.entry ∷ []) next.now.gate walk.old walk.new) }
-{
-    match bumped(&next.entry) {
-        Some(number) if next.is_put_off => walk.put_off(number, next.gate),
-        _ => walk.take(alloc, &next.entry, next.gate),
-    }
 }

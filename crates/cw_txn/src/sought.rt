@@ -26,6 +26,13 @@ impl Sought {
         self.producers.len().saturating_add(self.parts.len())
     }
 
+    /// That of one bump of a script's producer more.
+    #[inline]
+    pub fn note_bump(&mut self, number: u32) -> Result<(), AllocError> {
+        self.producers.push(number)?;
+        Ok(())
+    }
+
     /// Those of one entry more.
     #[inline]
     pub fn note(&mut self, entry: &Entry) -> Result<(), AllocError> {
