@@ -1,5 +1,5 @@
--- The bodies of a transaction log read one by one: their entries, and the gate of each one's frame.
-use Rattle.std.proofs.Common.{◌≡◌, ◌≤◌, ◌<◌, inl, inr, ⊎_elim, ℕ, ◌+◌, ◌-◌, ◌^◌, List, [], ◌∷◌, ◌++◌, length, take, drop, map, replicate, get_or, slice_index_or, refl, sym, ◌∙◌, ap, subst, arith, append_assoc, length-append}
+-- The bodies of a transaction log shown one by one: their entries, and the gate of each one's frame.
+use Rattle.std.proofs.Common.{Option, Some, None, is_some, true, false, ◌≡◌, ◌≤◌, ◌<◌, inl, inr, ⊎_elim, ℕ, ◌+◌, ◌-◌, ◌^◌, List, [], ◌∷◌, ◌++◌, length, take, drop, map, replicate, get_or, slice_index_or, refl, sym, ◌∙◌, ap, subst, arith, append_assoc, length-append}
 use Rattle.std.specs.List.{flat_map, AllByRecursion}
 use Rattle.std.proofs.lemmas.Bool.{cases_lt}
 use Rattle.std.proofs.lemmas.List.{append-nil, map-append, take_more, get_or_default, length-replicate, get_or-replicate, get_or-append_right, get_or_append_left, take-append-drop}
@@ -11,10 +11,10 @@ use Rattle.cw_log.specs.Log.{length_of}
 use Rattle.cw_txn.specs.declared.entry.Entry.{Entry}
 use Rattle.cw_txn.specs.Body.{AreEntries, entries_bytes}
 use Rattle.cw_types.proofs.Lists.{cut_at}
-use Rattle.connect.specs.declared.opening.Reading.{Reading}
+use Rattle.cw_txn.specs.Replayed.{Replayed, TakesBody}
 use Rattle.connect.specs.Store.{Hold}
 use Rattle.connect.specs.Harms.{gate_behind, IsReadable, HasUnreadable, IsGateOf, HasBodyHarm}
-use Rattle.connect.specs.Reading.{gates_from, TakesFrame, HasRead, HasEntryHarm}
+use Rattle.connect.specs.Reading.{gates_from, HasRead, HasReadUpTo, HasEntryHarm}
 
 -- all entries of some groups
 abbrev pub entries_in : List (List Entry) → List Entry
@@ -46,39 +46,57 @@ pub readable_all : (groups : List (List Entry)) → AllByRecursion AreEntries gr
 readable_all [] each = tt
 readable_all (group ∷ groups) each = ((group, each.0, refl), readable_all groups each.1)
 
-module _ (bodies : List (List ℕ)) (index : ℕ) (within : index < length bodies) (small : length_of bodies < 2 ^ 64) (body : List ℕ) (item : body ≡ slice_index_or bodies index []) where
-  there : slice_index_or bodies index body ≡ body
-  there = get_or_default bodies index body [] within ∙ sym item
-
-  next : take (index + 1) bodies ≡ take index bodies ++ body ∷ []
-  next = take_more bodies index body within ∙ ap (λ (b : List ℕ). take index bodies ++ b ∷ []) there
-
-  fits : length_of (take index bodies) + (length body + 5) ≤ length_of bodies
-  fits = omega (arith, length_of-push (take index bodies) body, ap length_of next, length_of-append (take (index + 1) bodies) (drop (index + 1) bodies), length_of_least (drop (index + 1) bodies), ap length_of (take-append-drop (index + 1) bodies))
-
-  -- one body more
-  pub read_more : (old new : Reading) → HasRead (take index bodies) old → TakesFrame body old new → HasRead (take (index + 1) bodies) new
+-- one body more, whose frame has its gate at n
+module _ (bodies : List (List ℕ)) (body : List ℕ) (n : ℕ) (gate : n + 1 ≡ length_of bodies) where
+  pub read_more : (old new : Replayed) → HasRead bodies old → TakesBody body n old new → HasRead (bodies ++ body ∷ []) new
   read_more old new has takes = record {
-    groups = has.groups ++ takes.taken.group ∷ [];
-    each = recursion_from_All AreEntries (has.groups ++ takes.taken.group ∷ []) (All-push AreEntries has.groups takes.taken.group (All-from_recursion AreEntries has.groups has.each) takes.taken.are);
-    bodies_are = next ∙ ap (λ (l : List (List ℕ)). l ++ body ∷ []) has.bodies_are ∙ ap (λ (b : List ℕ). map entries_bytes has.groups ++ b ∷ []) takes.taken.spelled ∙ sym (map-append entries_bytes has.groups (takes.taken.group ∷ []));
-    entries_are = takes.taken.entries ∙ ap (λ (l : List Entry). l ++ takes.taken.group) has.entries_are ∙ sym (entries_in-push has.groups takes.taken.group);
-    gates_are = takes.taken.gates ∙ ap (λ (l : List ℕ). l ++ replicate (length takes.taken.group) old.at) has.gates_are
-        ∙ sym (gates_from-push 16 old.at has.groups takes.taken.group (omega (arith, has.at, ap length_of has.bodies_are, length_of_least (take index bodies))));
-    at = omega (arith, takes.at, has.at, fits, small, length_of_least (take index bodies), ap length_of next, length_of-push (take index bodies) body);
+    groups = has.groups ++ takes.group ∷ [];
+    each = recursion_from_All AreEntries (has.groups ++ takes.group ∷ []) (All-push AreEntries has.groups takes.group (All-from_recursion AreEntries has.groups has.each) takes.are);
+    bodies_are = ap (λ (l : List (List ℕ)). l ++ body ∷ []) has.bodies_are ∙ ap (λ (b : List ℕ). map entries_bytes has.groups ++ b ∷ []) takes.spelled ∙ sym (map-append entries_bytes has.groups (takes.group ∷ []));
+    entries_are = takes.entries ∙ ap (λ (l : List Entry). l ++ takes.group) has.entries_are ∙ sym (entries_in-push has.groups takes.group);
+    gates_are = takes.gates ∙ ap (λ (l : List ℕ). l ++ replicate (length takes.group) n) has.gates_are ∙ sym (gates_from-push 16 n has.groups takes.group (omega (arith, gate, ap length_of has.bodies_are)));
   }
 
   -- it is the first that is none of entries
-  pub unread_here : (old : Reading) → HasRead (take index bodies) old → ¬ IsReadable body → HasUnreadable bodies old.at
+  pub unread_here : (old : Replayed) → HasRead bodies old → ¬ IsReadable body → HasUnreadable (bodies ++ body ∷ []) n
   unread_here old has never = record {
-    before = take index bodies;
+    before = bodies;
     body = body;
-    behind = drop (index + 1) bodies;
-    split = cut_at bodies index body within there;
+    behind = [];
+    split = refl;
     readable = subst (AllByRecursion IsReadable) (sym has.bodies_are) (readable_all has.groups has.each);
     unreadable = never;
-    gate = has.at;
+    gate = omega (arith, gate);
   }
+
+-- a body behind the first that is none of entries
+pub unread_still : (bodies : List (List ℕ)) (body : List ℕ) (at : ℕ) → HasUnreadable bodies at → HasUnreadable (bodies ++ body ∷ []) at
+unread_still bodies body at h = record {
+  before = h.before;
+  body = h.body;
+  behind = h.behind ++ body ∷ [];
+  split = ap (λ (l : List (List ℕ)). l ++ body ∷ []) h.split ∙ append_assoc h.before (h.body ∷ h.behind) (body ∷ []);
+  readable = h.readable;
+  unreadable = h.unreadable;
+  gate = h.gate;
+}
+
+-- a body more where all before it were read
+pub seen_more : (unreadable : Option ℕ) → is_some unreadable ≡ false → (bodies : List (List ℕ)) (body : List ℕ) (n : ℕ) → n + 1 ≡ length_of bodies → (old new : Replayed) → HasReadUpTo unreadable bodies old → TakesBody body n old new
+    → HasReadUpTo unreadable (bodies ++ body ∷ []) new
+seen_more None none = read_more
+seen_more (Some at) none = absurd (cc)
+
+-- the first that is none of entries
+pub seen_first : (unreadable : Option ℕ) → is_some unreadable ≡ false → (bodies : List (List ℕ)) (body : List ℕ) (n : ℕ) → n + 1 ≡ length_of bodies → (old : Replayed) → HasReadUpTo unreadable bodies old → ¬ IsReadable body
+    → HasUnreadable (bodies ++ body ∷ []) n
+seen_first None none = unread_here
+seen_first (Some at) none = absurd (cc)
+
+-- a body behind it
+pub seen_still : (unreadable : Option ℕ) → is_some unreadable ≡ true → (bodies : List (List ℕ)) (body : List ℕ) (old : Replayed) → HasReadUpTo unreadable bodies old → HasReadUpTo unreadable (bodies ++ body ∷ []) old
+seen_still None some = absurd (cc)
+seen_still (Some at) some = λ bodies body old h. unread_still bodies body at h
 
 -- where the entry at a place lies, and its gate
 record Spot (front groups : List (List Entry)) (k : ℕ) : Type 0 where
@@ -134,11 +152,11 @@ spot front [] k within = absurd (omega arith)
 spot front (group ∷ groups) k within = ⊎_elim (here front group groups k)
     (λ past. later front group groups k past (spot (front ++ group ∷ []) groups (k - length group) (omega (arith, length-cons group groups, within, past)))) (cases_lt k (length group))
 
-module _ (bodies : List (List ℕ)) (reading : Reading) (has : HasRead bodies reading) where
-  pub hold : Hold bodies reading.replay.entries
+module _ (bodies : List (List ℕ)) (replay : Replayed) (has : HasRead bodies replay) where
+  pub hold : Hold bodies replay.entries
   hold = record { groups = has.groups; each = has.each; bodies_are = has.bodies_are; entries_are = has.entries_are }
 
-  gate_of : (place at : ℕ) → place < length reading.replay.entries → slice_index_or reading.replay.gates place at ≡ at → IsGateOf bodies reading.replay.entries place at
+  gate_of : (place at : ℕ) → place < length replay.entries → slice_index_or replay.gates place at ≡ at → IsGateOf bodies replay.entries place at
   gate_of place at within is =
       let s = spot [] has.groups place (omega (arith, within, ap length has.entries_are)) in
       record {
@@ -153,13 +171,13 @@ module _ (bodies : List (List ℕ)) (reading : Reading) (has : HasRead bodies re
         gate = sym is ∙ ap (λ (l : List ℕ). get_or l place at) has.gates_are ∙ s.gate at;
       }
 
-  within_split : (before : List Entry) (entry : Entry) (behind : List Entry) (place : ℕ) → reading.replay.entries ≡ before ++ entry ∷ behind → length before ≡ place → place < length reading.replay.entries
+  within_split : (before : List Entry) (entry : Entry) (behind : List Entry) (place : ℕ) → replay.entries ≡ before ++ entry ∷ behind → length before ≡ place → place < length replay.entries
   within_split before entry behind place split at = omega (arith, ap length split, length-append before (entry ∷ behind), at)
 
   -- a harm of the entries is one of the bodies
-  pub body_harm : (at : ℕ) (harm : Harm) → HasEntryHarm reading.replay.entries reading.replay.gates at harm → HasBodyHarm bodies at harm
-  body_harm at Content h = inr (record { entries = reading.replay.entries; place = h.0; gate = gate_of h.0 at (within_split h.1.before h.1.entry h.1.behind h.0 h.1.split h.1.at) h.2; first = h.1 })
-  body_harm at Unsafe h = record { entries = reading.replay.entries; place = h.0; gate = gate_of h.0 at (within_split h.2.before h.2.entry h.2.behind h.0 h.2.split h.2.at) h.3; allowed = h.1; first = h.2 }
+  pub body_harm : (at : ℕ) (harm : Harm) → HasEntryHarm replay.entries replay.gates at harm → HasBodyHarm bodies at harm
+  body_harm at Content h = inr (record { entries = replay.entries; place = h.0; gate = gate_of h.0 at (within_split h.1.before h.1.entry h.1.behind h.0 h.1.split h.1.at) h.2; first = h.1 })
+  body_harm at Unsafe h = record { entries = replay.entries; place = h.0; gate = gate_of h.0 at (within_split h.2.before h.2.entry h.2.behind h.0 h.2.split h.2.at) h.3; allowed = h.1; first = h.2 }
   body_harm at Magic h = h
   body_harm at Version h = h
   body_harm at Kind h = h
@@ -168,9 +186,5 @@ module _ (bodies : List (List ℕ)) (reading : Reading) (has : HasRead bodies re
   body_harm at Length h = h
 
 -- nothing is read of no body
-pub read_none : (reading : Reading) → reading.replay.entries ≡ [] → reading.replay.gates ≡ [] → reading.at ≡ 16 → HasRead [] reading
-read_none reading entries gates at = record { groups = []; each = tt; bodies_are = refl; entries_are = entries; gates_are = gates; at = at }
-
--- the first body that is none of entries is a harm of the bodies
-pub unread_harm : (bodies : List (List ℕ)) (at : ℕ) (harm : Harm) → harm ≡ Content → HasUnreadable bodies at → HasBodyHarm bodies at harm
-unread_harm bodies at harm is unread = subst (HasBodyHarm bodies at) (sym is) (inl unread)
+pub read_none : (replay : Replayed) → replay.entries ≡ [] → replay.gates ≡ [] → HasRead [] replay
+read_none replay entries gates = record { groups = []; each = tt; bodies_are = refl; entries_are = entries; gates_are = gates }

@@ -1,10 +1,10 @@
--- Causes of a log that was not opened, and steps that only read it.
-use Rattle.std.proofs.Common.{ℕ, ◌∙◌}
+-- Causes of a log that was not opened.
+use Rattle.std.proofs.Common.{ℕ, Result, Ok, Err}
+use Rattle.std.specs.Result.{IfErr}
 use Rattle.cw_log.specs.declared.fault.Harm.{Harm}
 use Rattle.cw_log.specs.declared.fault.OpenCause.{OpenCause}
 use Rattle.cw_log.specs.declared.fault.OpenCause.TheVariants.{Damaged, Failed, Memory}
 use Rattle.cw_log.specs.Log.{OnCause}
-use Rattle.cw_log.specs.State.{LogState, HasSameList}
 use Rattle.connect.specs.declared.opening.OpeningCause.{OpeningCause}
 use Rattle.connect.specs.declared.opening.OpeningCause.TheVariants as causes
 use Rattle.connect.specs.Harms.{OnOpeningCause}
@@ -15,6 +15,11 @@ pub OnCause-weaker : (damaged hurt : ℕ → Harm → Type 0) (failed broke memo
 OnCause-weaker damaged hurt failed broke memory want d f m (Damaged at harm) h = d at harm h
 OnCause-weaker damaged hurt failed broke memory want d f m Failed h = f h
 OnCause-weaker damaged hurt failed broke memory want d f m Memory h = m h
+
+pub IfErr-weaker : {A : Type 0} (damaged hurt : ℕ → Harm → Type 0) (failed want : Type 0) → ((at : ℕ) (harm : Harm) → damaged at harm → hurt at harm)
+    → (result : Result A OpenCause) → IfErr result (OnCause damaged failed want) → IfErr result (OnCause hurt failed want)
+IfErr-weaker damaged hurt failed want d (Ok made) h = h
+IfErr-weaker damaged hurt failed want d (Err cause) h = OnCause-weaker damaged hurt failed failed want want d (λ f. f) (λ w. w) cause h
 
 -- a cause of the log as one of the opening
 pub OnOpeningCause-of : (damaged hurt : ℕ → Harm → Type 0) (failed memory want : Type 0) (fault : ℕ → Type 0) (count : ℕ) → ((at : ℕ) (harm : Harm) → damaged at harm → hurt at harm) → (failed → fault count) → (memory → want)
@@ -28,15 +33,3 @@ pub OnOpeningCause-weaker : (damaged hurt : ℕ → Harm → Type 0) (fault brok
 OnOpeningCause-weaker damaged hurt fault broke memory want d f m (causes.Damaged at harm) h = d at harm h
 OnOpeningCause-weaker damaged hurt fault broke memory want d f m (causes.StoreFault count) h = f count h
 OnOpeningCause-weaker damaged hurt fault broke memory want d f m causes.Memory h = m h
-
-module _ {D : Type 0} where
-  pub HasSameList-then : (old mid new : LogState D) → HasSameList old mid → HasSameList mid new → HasSameList old new
-  HasSameList-then old mid new first second = record {
-    kind = second.kind ∙ first.kind;
-    bodies = second.bodies ∙ first.bodies;
-    count = second.count ∙ first.count;
-    length = second.length ∙ first.length;
-    limit = second.limit ∙ first.limit;
-    shut = second.shut ∙ first.shut;
-    ready = second.ready ∙ first.ready;
-  }

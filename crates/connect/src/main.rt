@@ -12,6 +12,7 @@ mod drive;
 mod lines;
 mod opening;
 mod player;
+mod reading;
 mod session;
 mod status;
 mod top;

@@ -1,11 +1,11 @@
 -- A file that begins with a header and whole frames: which list it stands for, and what keeps it.
 use Rattle.std.proofs.Common.{◌≡◌, ◌≤◌, ◌<◌, inr, ℕ, suc, ◌+◌, List, [], ◌∷◌, ◌++◌, length, take, drop, refl, sym, ◌∙◌, ap, subst, arith, append_assoc, length-append, length-take, take-append-drop, Option, Some, None}
-use Rattle.std.proofs.lemmas.List.{take_at, drop_at, get_or-take}
+use Rattle.std.proofs.lemmas.List.{take_at, drop_at, get_or-take, map-append}
 use Rattle.std.specs.Int.{w32, to_be_bytes}
 use Rattle.cw_log.specs.declared.place.Place.{Place}
-use Rattle.cw_log.specs.Log.{field, AreFrames, Begins, IsHead, StandsFor, StandAlike, places_from, bodies_at, new_log, header, byte_at, harm_of_head}
+use Rattle.cw_log.specs.Log.{field, AreFrames, Begins, IsHead, StandsFor, StandAlike, places_from, bodies_at, length_of, new_log, header, byte_at, harm_of_head}
 use Rattle.cw_log.specs.State.{IsKept, HasFront}
-use Rattle.cw_log.proofs.Frames.{begins_start}
+use Rattle.cw_log.proofs.Frames.{begins_start, frames_length}
 use Rattle.cw_log.proofs.Made.{length-header, new_head}
 
 -- the bodies lie where the places say
@@ -28,6 +28,14 @@ at_places (b ∷ bodies) pre front rest at is size =
 pub bodies_are : (gate : ℕ) (places : List Place) (file : List ℕ) → (b : Begins gate places file) → bodies_at places file ≡ b.bodies
 bodies_are gate places file b =
     ap (λ (l : List Place). bodies_at l file) b.places_are ∙ ap (bodies_at (places_from 16 b.bodies)) b.split ∙ at_places b.bodies b.head b.front b.rest 16 b.frames b.size
+
+-- one body more
+pub bodies_at-push : (places : List Place) (at n : ℕ) (file : List ℕ) → bodies_at (places ++ record { at = at; length = n } ∷ []) file ≡ bodies_at places file ++ take n (drop (at + 5) file) ∷ []
+bodies_at-push places at n file = map-append (λ (place : Place). take place.length (drop (place.at + 5) file)) places (record { at = at; length = n } ∷ [])
+
+-- the gate behind the frames, by how many bytes a log of these bodies has
+pub gate_behind : (at : ℕ) (places : List Place) (file : List ℕ) → Begins at places file → at + 1 ≡ length_of (bodies_at places file)
+gate_behind at places file b = omega (arith, b.place, frames_length b.bodies b.front b.frames, ap length_of (bodies_are at places file b))
 
 -- the header and the frames, without what follows
 pub front_is : (gate : ℕ) (places : List Place) (file : List ℕ) → (b : Begins gate places file) → take gate file ≡ b.head ++ b.front

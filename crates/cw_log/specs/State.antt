@@ -11,6 +11,8 @@ use Rattle.cw_log.specs.declared.fault.AppendFault.{AppendFault}
 use Rattle.cw_log.specs.declared.fault.AppendFault.TheVariants.{Failed, Full, Shut, Memory}
 use Rattle.cw_log.specs.declared.fault.ReadFault.{ReadFault}
 use Rattle.cw_log.specs.declared.fault.ReadFault.TheVariants as reads
+use Rattle.cw_log.specs.declared.fault.OpenCause.{OpenCause}
+use Rattle.cw_log.specs.declared.fault.OpenCause.TheVariants as opens
 
 pub record LogState (D : Type 0) : Type 0 where
   pub disk : D
@@ -98,6 +100,11 @@ OnAppendFault failed full shut memory Memory = memory
 abbrev pub OnReadFault : (failed memory : Type 0) → ReadFault → Type 0
 OnReadFault failed memory reads.Failed = failed
 OnReadFault failed memory reads.Memory = memory
+
+-- why a log is not opened of which a part could not be read
+abbrev pub cause_of_read : ReadFault → OpenCause
+cause_of_read reads.Failed = opens.Failed
+cause_of_read reads.Memory = opens.Memory
 
 -- what a log keeps of itself
 pub record IsLog {D : Type 0} (holds : D → Option (List ℕ)) (may_leave : D → List ℕ → Type 0) (reserved : D → ℕ) (disk : D) (kind ready : ℕ) (frames : Frames) (tail : Vec ℕ Global) (ahead : Option Window) (shut : Bool) : Type 0 where

@@ -73,6 +73,20 @@ impl<T: Drop> From<AllocFailed<T>> for OpenCause {
     }
 }
 
+impl From<ReadFault> for OpenCause {
+    ghost use Rattle.std.specs.Prelude.{◌≡◌};
+    ghost use Rattle.cw_log.specs.State.{cause_of_read};
+
+    ghost from_gives = { λ fault cause. cause ≡ cause_of_read fault };
+
+    fn from(fault: ReadFault) -> Self {
+        match fault {
+            ReadFault::Failed => OpenCause::Failed,
+            ReadFault::Memory => OpenCause::Memory,
+        }
+    }
+}
+
 /// Why a body was not appended.
 #[derive(Clone, Copy, Debug, PartialEq, Eq, Drop)]
 pub enum AppendFault {

@@ -19,6 +19,7 @@ mod scan;
 mod tests;
 mod topic;
 mod topic_body_log;
+mod visitor;
 mod window;
 
 pub use body_log::BodyLog;
@@ -26,4 +27,6 @@ pub use fault::{AppendFault, Harm, OpenCause, OpenFault, ReadFault};
 pub use law::files_read_one_way;
 pub(crate) use place::{Frame, Frames, Place};
 pub use topic::TopicLog;
+pub use visitor::BodyVisitor;
+pub(crate) use visitor::Nobody;
 pub(crate) use window::Window;

@@ -3,13 +3,13 @@ ghost use Rattle.std.specs.Prelude.{◌≡◌, ◌≤◌, ◌<◌, ◌+◌, ◌^
 ghost use Rattle.cw_disk.specs.Disk.{Only, Adds};
 ghost use Rattle.cw_types.specs.Faults.{Rose};
 ghost use Rattle.cw_log.specs.Calls.{Reads};
-ghost use Rattle.cw_log.specs.Log.{IsUnmade, IsDamaged, StandsFor, StandAlike, Begins, IsFrame, OnCause, byte_at, harm_of_head, harm_of_file, places_of};
+ghost use Rattle.cw_log.specs.Log.{IsUnmade, IsDamaged, StandsFor, StandAlike, Begins, IsFrame, OnCause, byte_at, harm_of_head, harm_of_file, bodies_at, places_of};
 ghost use Rattle.cw_log.specs.State.{IsKept, IsRest, OpensTo, HasFront};
 
 use crate::calls::{flush, length_of, prepare, read, shorten};
 use crate::make::make;
 use crate::scan::scan;
-use crate::{Frames, Harm, OpenCause};
+use crate::{BodyVisitor, Frames, Harm, OpenCause};
 use cw_disk::{Disk, Failed};
 use std::alloc::Global;
 
@@ -63,13 +63,14 @@ fn trim<D: Disk>(disk: &mut D, gate: u64, size: u64) -> Result<(), Failed>
     Ok(())
 }
 
-// Opens a made file of this size, whose header is at hand.
-fn open_made<D: Disk>(
+// Opens a made file of this size, whose header is at hand. The visitor is shown its bodies.
+fn open_made<D: Disk, V: BodyVisitor>(
     alloc: Global,
     disk: &mut D,
     kind: u8,
     size: u64,
     head: &[u8],
+    visitor: &mut V,
 ) -> Result<Frames, OpenCause>
     requires size { (file : List ℕ) → D.holds disk.old ≡ Some file → size ≡ length file }
     requires settled { (file : List ℕ) → D.holds disk.old ≡ Some file → Only file (D.may_leave disk.old) }
@@ -78,6 +79,7 @@ fn open_made<D: Disk>(
     requires whole { length head.now ≡ 16 }
     ensures kept { IfOk result (λ found. (file : List ℕ) → D.holds disk.new ≡ Some file → IsKept kind found.gate (places_of found) file × IsRest found.gate (D.may_leave disk.new) file) }
     ensures list { IfOk result (λ found. (file : List ℕ) → D.holds disk.old ≡ Some file → OpensTo kind (places_of found) (D.holds disk.new) file) }
+    ensures seen { IfOk result (λ found. V.has_seen visitor.old [] → (now : List ℕ) → D.holds disk.new ≡ Some now → V.has_seen visitor.new (bodies_at (places_of found) now)) }
     ensures gate { IfOk result (λ found. (16 ≤ found.gate) × (found.gate + 1 < 2 ^ 64)) }
     ensures told { OnOk result (is_some (D.holds disk.new) ≡ is_some (D.holds disk.old)) }
     ensures cause { IfErr result (OnCause
@@ -96,7 +98,7 @@ fn open_made<D: Disk>(
     if let Some(harm) = harm_in(kind, head) {
         return Err(OpenCause::Damaged { at: 0, harm });
     }
-    let found = scan(alloc, disk, size)?;
+    let found = scan(alloc, disk, size, visitor)?;
     trim(disk, found.gate, size)?;
     Ok(found)
 }
@@ -108,6 +110,7 @@ fn open_new<D: Disk>(alloc: Global, disk: &mut D, kind: u8, size: u64) -> Result
     requires unmade { (file : List ℕ) → D.holds disk.old ≡ Some file → IsUnmade file }
     ensures kept { IfOk result (λ found. (file : List ℕ) → D.holds disk.new ≡ Some file → IsKept kind found.gate (places_of found) file × IsRest found.gate (D.may_leave disk.new) file) }
     ensures list { IfOk result (λ found. (file : List ℕ) → D.holds disk.old ≡ Some file → OpensTo kind (places_of found) (D.holds disk.new) file) }
+    ensures none { IfOk result (λ found. places_of found ≡ []) }
     ensures gate { IfOk result (λ found. (16 ≤ found.gate) × (found.gate + 1 < 2 ^ 64)) }
     ensures told { OnOk result (is_some (D.holds disk.new) ≡ is_some (D.holds disk.old)) }
     ensures cause { IfErr result (OnCause (λ at harm. ⊥) (Rose (D.count disk.old) (D.count disk.new)) (D.holds disk.new ≡ D.holds disk.old)) }
@@ -122,10 +125,16 @@ fn open_new<D: Disk>(alloc: Global, disk: &mut D, kind: u8, size: u64) -> Result
     })
 }
 
-// Opens the file: syncs it, reads it, and makes a log of it or cuts it behind its closed gate.
-pub(crate) fn opened<D: Disk>(alloc: Global, disk: &mut D, kind: u8) -> Result<Frames, OpenCause>
+// Opens the file: syncs it, reads it, and makes a log of it or cuts it behind its closed gate. The visitor is shown its bodies.
+pub(crate) fn opened<D: Disk, V: BodyVisitor>(
+    alloc: Global,
+    disk: &mut D,
+    kind: u8,
+    visitor: &mut V,
+) -> Result<Frames, OpenCause>
     ensures kept { IfOk result (λ found. (file : List ℕ) → D.holds disk.new ≡ Some file → IsKept kind found.gate (places_of found) file × IsRest found.gate (D.may_leave disk.new) file) }
     ensures list { IfOk result (λ found. (file : List ℕ) → D.holds disk.old ≡ Some file → OpensTo kind (places_of found) (D.holds disk.new) file) }
+    ensures seen { IfOk result (λ found. V.has_seen visitor.old [] → (now : List ℕ) → D.holds disk.new ≡ Some now → V.has_seen visitor.new (bodies_at (places_of found) now)) }
     ensures gate { IfOk result (λ found. (16 ≤ found.gate) × (found.gate + 1 < 2 ^ 64)) }
     ensures told { OnOk result (is_some (D.holds disk.new) ≡ is_some (D.holds disk.old)) }
     ensures cause { IfErr result (OnCause
@@ -139,7 +148,7 @@ pub(crate) fn opened<D: Disk>(alloc: Global, disk: &mut D, kind: u8) -> Result<F
     if size < 2 || head[0] == 0 {
         return open_new(alloc, disk, kind, size);
     }
-    open_made(alloc, disk, kind, size, &head)
+    open_made(alloc, disk, kind, size, &head, visitor)
 }
 
 // Syncs the disk, and reads its length and its first 16 bytes.

@@ -1,10 +1,11 @@
 // Reading the frames of a made file.
-ghost use Rattle.std.specs.Prelude.{◌≡◌, ◌≤◌, ◌<◌, ◌+◌, ◌-◌, ◌^◌, List, ℕ, Some, length, take, drop, IfOk, IfErr, OnErr};
+ghost use Rattle.std.specs.Prelude.{◌≡◌, ◌≤◌, ◌<◌, ◌+◌, ◌-◌, ◌^◌, ◌++◌, ◌∷◌, [], List, ℕ, Some, length, take, drop, IfOk, IfErr, OnOk, OnErr};
 ghost use Rattle.cw_types.specs.Faults.{Rose};
 ghost use Rattle.cw_log.specs.Calls.{Reads, Shows, IsWindow};
-ghost use Rattle.cw_log.specs.Log.{IsFrame, EndsWithin, Begins, BreaksAt, OnCause, places_of};
+ghost use Rattle.cw_log.specs.Log.{IsFrame, EndsWithin, Begins, BreaksAt, OnCause, bodies_at, length_of, places_of};
 
-use crate::{Frame, Frames, Harm, OpenCause, Window};
+use crate::calls::read_part;
+use crate::{BodyVisitor, Frame, Frames, Harm, OpenCause, Window};
 use cw_disk::{Disk, Failed};
 use std::alloc::Global;
 
@@ -49,11 +50,51 @@ fn frame_at<D: Disk>(disk: &mut D, window: &mut Window, at: u64, size: u64) -> R
     Ok(frame_of(&five, size - at))
 }
 
-/// The frames of a file of this size, which has a header.
-pub(crate) fn scan<D: Disk>(alloc: Global, disk: &mut D, size: u64) -> Result<Frames, OpenCause>
+// Shows the body of so many bytes that lies in a frame with its gate at this place. One that is longer than the window is read
+// by itself.
+#[inline]
+fn show<D: Disk, V: BodyVisitor>(
+    alloc: Global,
+    disk: &mut D,
+    window: &mut Window,
+    at: u64,
+    count: u64,
+    visitor: &mut V,
+) -> Result<(), OpenCause>
+    requires window { (file : List ℕ) → D.holds disk.old ≡ Some file → IsWindow file window.old }
+    requires within { window.old.filled ≤ length window.old.bytes.items }
+    requires whole { (file : List ℕ) → D.holds disk.old ≡ Some file → at + (5 + count) ≤ length file }
+    requires fits { at + (5 + count) < 2 ^ 64 }
+    ensures window { (file : List ℕ) → D.holds disk.old ≡ Some file → IsWindow file window.new }
+    ensures within { window.new.filled ≤ length window.new.bytes.items }
+    ensures seen { OnOk result ((file : List ℕ) → D.holds disk.old ≡ Some file → (bodies : List (List ℕ)) → at + 1 ≡ length_of bodies →
+        V.has_seen visitor.old bodies → V.has_seen visitor.new (bodies ++ take count (drop (at + 5) file) ∷ [])) }
+    ensures reads { Reads D.holds D.may_leave D.moment D.left_since D.count D.reserved disk.old disk.new }
+    ensures cause { IfErr result (OnCause (λ at harm. ⊥) (Rose (D.count disk.old) (D.count disk.new)) (Unit {0})) }
+{
+    let size = count as usize;
+    if size > window.width() {
+        let mut body = Vec::new(alloc);
+        read_part(disk, at + 5, size, &mut body)?;
+        visitor.see(body.as_slice(), at)?;
+        return Ok(());
+    }
+    let from = window.place_of(disk, at + 5, size)?;
+    visitor.see(window.shown(from, size), at)?;
+    Ok(())
+}
+
+/// The frames of a file of this size, which has a header. The visitor is shown their bodies.
+pub(crate) fn scan<D: Disk, V: BodyVisitor>(
+    alloc: Global,
+    disk: &mut D,
+    size: u64,
+    visitor: &mut V,
+) -> Result<Frames, OpenCause>
     requires size { (file : List ℕ) → D.holds disk.old ≡ Some file → size ≡ length file }
     requires long { 16 ≤ size }
     ensures found { IfOk result (λ found. (file : List ℕ) → D.holds disk.old ≡ Some file → Begins found.gate (places_of found) file × IsFrame Frame.Closed (drop found.gate file)) }
+    ensures seen { IfOk result (λ found. (file : List ℕ) → D.holds disk.old ≡ Some file → V.has_seen visitor.old [] → V.has_seen visitor.new (bodies_at (places_of found) file)) }
     ensures gate { IfOk result (λ found. (16 ≤ found.gate) × (found.gate < size)) }
     ensures cause { IfErr result (OnCause (λ at harm. (harm ≡ Harm.Length) × ((file : List ℕ) → D.holds disk.old ≡ Some file → BreaksAt at file)) (Rose (D.count disk.old) (D.count disk.new)) (Unit {0})) }
     ensures reads { Reads D.holds D.may_leave D.moment D.left_since D.count D.reserved disk.old disk.new }
@@ -61,6 +102,7 @@ pub(crate) fn scan<D: Disk>(alloc: Global, disk: &mut D, size: u64) -> Result<Fr
     let mut starts = Vec::new(alloc);
     let mut window = Window::new(alloc)?;
     let mut at = 16;
+    visitor.expect(size);
     'frames: loop {
         match frame_at(disk, &mut window, at, size)? {
             Frame::Closed => return Ok(Frames { starts, gate: at }),
@@ -71,6 +113,7 @@ pub(crate) fn scan<D: Disk>(alloc: Global, disk: &mut D, size: u64) -> Result<Fr
                 });
             }
             Frame::Open(length) => {
+                show(alloc, disk, &mut window, at, length, visitor)?;
                 starts.push(at)?;
                 at += 5 + length;
             }

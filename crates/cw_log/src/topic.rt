@@ -10,7 +10,7 @@ use crate::calls::prepare;
 use crate::frame::write_frame;
 use crate::open::opened;
 use crate::window::read_ahead;
-use crate::{AppendFault, Frames, OpenFault, ReadFault, Window};
+use crate::{AppendFault, BodyVisitor, Frames, Nobody, OpenFault, ReadFault, Window};
 use cw_disk::{Disk, Failed, Memory};
 use cw_types::LogName;
 use std::alloc::Global;
@@ -78,9 +78,46 @@ impl<D: Disk> TopicLog<D> {
             (λ fault. Adds D.moment D.left_since disk fault.disk (StandAlike (kind_of name) file)) }
         ensures later { MatchResult result (λ log. D.count disk ≤ D.count log.disk) (λ fault. D.count disk ≤ D.count fault.disk) }
     {
+        TopicLog::open_with(alloc, disk, name, limit, &mut Nobody)
+    }
+
+    /// The same, where a visitor is shown the bodies in the one pass over the file. Behind an `Err` the visitor may have
+    /// been shown some of them.
+    pub fn open_with<V: BodyVisitor>(
+        alloc: Global,
+        disk: D,
+        name: LogName,
+        limit: u64,
+        visitor: &mut V,
+    ) -> Result<TopicLog<D>, OpenFault<D>>
+        // The list is the one that the file stands for.
+        ensures list { IfOk result (λ log. (file : List ℕ) → D.holds disk ≡ Some file →
+            (bodies : List (List ℕ)) × (log.bodies ≡ Some bodies) × StandsFor (kind_of name) bodies file) }
+        ensures told { IfOk result (λ log. is_some log.bodies ≡ is_some (D.holds disk)) }
+        ensures new { IfOk result (λ log. (log.kind ≡ kind_of name) × (log.limit ≡ limit) × (log.shut ≡ false) × (log.failed ≡ None)) }
+
+        ensures cause { IfErr result (λ fault. OnCause
+            (λ at harm. (D.holds fault.disk ≡ D.holds disk) × ((file : List ℕ) → D.holds disk ≡ Some file → IsDamaged (kind_of name) file at harm))
+            (Rose (D.count disk) (D.count fault.disk))
+            (D.holds fault.disk ≡ D.holds disk) fault.cause) }
+
+        // The visitor was shown its bodies.
+        ensures seen { IfOk result (λ log. V.has_seen visitor.old [] → (bodies : List (List ℕ)) → log.bodies ≡ Some bodies → V.has_seen visitor.new bodies) }
+
+        // What a stop may leave now it might have left before, or it stands for the same list.
+        ensures left { (file : List ℕ) → D.holds disk ≡ Some file → MatchResult result
+            (λ log. (image : List ℕ) → D.may_leave log.disk image → D.may_leave disk image ⊎ StandAlike (kind_of name) file image)
+            (λ fault. (image : List ℕ) → D.may_leave fault.disk image → D.may_leave disk image ⊎ StandAlike (kind_of name) file image) }
+
+        // A stop at any moment of the call leaves a file that stands for the same list.
+        ensures any_moment { (file : List ℕ) → D.holds disk ≡ Some file → MatchResult result
+            (λ log. Adds D.moment D.left_since disk log.disk (StandAlike (kind_of name) file))
+            (λ fault. Adds D.moment D.left_since disk fault.disk (StandAlike (kind_of name) file)) }
+        ensures later { MatchResult result (λ log. D.count disk ≤ D.count log.disk) (λ fault. D.count disk ≤ D.count fault.disk) }
+    {
         let mut disk = disk;
         let kind = kind_number(name);
-        match opened(alloc, &mut disk, kind) {
+        match opened(alloc, &mut disk, kind, visitor) {
             Ok(frames) => Ok(TopicLog {
                 alloc,
                 disk,
@@ -195,34 +232,17 @@ impl<D: Disk> TopicLog<D> {
         ensures same { HasSameList self.old self.new }
         ensures reads { Reads D.holds D.may_leave D.moment D.left_since D.count D.reserved self.old.disk self.new.disk }
     {
-        let mut body = Vec::new(self.alloc);
-        self.read_body_into(index, &mut body)?;
-        Ok(body)
-    }
-
-    /// Reads the body of this number, which is below the count, into `body`, in the place of what that
-    /// held. Behind an `Err` what `body` holds is open.
-    #[inline]
-    pub fn read_body_into(&mut self, index: u64, body: &mut Vec<u8>) -> Result<(), ReadFault>
-        requires { index < self.old.count }
-        ensures body { OnOk result ((bodies : List (List ℕ)) → self.old.bodies ≡ Some bodies → body.new.items ≡ slice_index_or bodies index []) }
-        ensures fault { IfErr result (OnReadFault
-            (Rose (D.count self.old.disk) (D.count self.new.disk) × (self.new.failed ≡ Some (0, D.count self.new.disk)))
-            (self.new.failed ≡ self.old.failed)) }
-        ensures ok { OnOk result (self.new.failed ≡ self.old.failed) }
-        ensures same { HasSameList self.old self.new }
-        ensures reads { Reads D.holds D.may_leave D.moment D.left_since D.count D.reserved self.old.disk self.new.disk }
-    {
         let place = self.frames.get(index);
+        let mut body = Vec::new(self.alloc);
         match read_ahead(
             self.alloc,
             &mut self.ahead,
             &mut self.disk,
             place.at.saturating_add(5),
             place.length as usize,
-            body,
+            &mut body,
         ) {
-            Ok(()) => Ok(()),
+            Ok(()) => Ok(body),
             Err(ReadFault::Memory) => Err(ReadFault::Memory),
             Err(ReadFault::Failed) => {
                 self.failed = Some(self.disk.faults());
@@ -241,10 +261,11 @@ impl<D: Disk> TopicLog<D> {
         }
     }
 
-    /// What a stop leaves of a log in which no append has failed. It does nothing.
+    /// What a stop leaves of a log in which no append has failed, and how long it is. It does nothing.
     pub fn rest(&self)
-        ensures { self.now.shut ≡ false → (bodies : List (List ℕ)) → self.now.bodies ≡ Some bodies →
+        ensures left { self.now.shut ≡ false → (bodies : List (List ℕ)) → self.now.bodies ≡ Some bodies →
             (image : List ℕ) → D.may_leave self.now.disk image → StandsFor self.now.kind bodies image }
+        ensures size { (bodies : List (List ℕ)) → self.now.bodies ≡ Some bodies → self.now.length ≡ length_of bodies }
     {
         let _ = &self.disk;
     }

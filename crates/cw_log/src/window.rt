@@ -80,6 +80,23 @@ impl Window {
         Ok(five_of(&self.bytes[..self.filled], 0))
     }
 
+    // How many bytes it shows at most.
+    #[inline]
+    pub(crate) fn width(&self) -> usize
+        ensures { result ≡ length self.now.bytes.items }
+    {
+        self.bytes.len()
+    }
+
+    // So many of the bytes that it shows from this one of them on, or fewer where there are not so many.
+    #[inline]
+    pub(crate) fn shown(&self, from: usize, size: usize) -> &[u8]
+        requires { (from ≤ self.now.filled) × (self.now.filled ≤ length self.now.bytes.items) }
+        ensures { result.now ≡ take size (drop from (take self.now.filled self.now.bytes.items)) }
+    {
+        part_of(&self.bytes[..self.filled], from, size)
+    }
+
     // Reads so many bytes from `at` on, or fewer where the disk ends, in the place of what `into` held. A
     // part that is longer than the window is read by itself.
     #[inline]
@@ -102,13 +119,18 @@ impl Window {
             return read_part(disk, at, size, into);
         }
         let from = self.place_of(disk, at, size)?;
-        copy_into(into, part_of(&self.bytes[..self.filled], from, size))?;
+        copy_into(into, self.shown(from, size))?;
         Ok(())
     }
 
     // Where the bytes from `at` on lie in it. It is filled from there on where so many bytes are not in it.
     #[inline]
-    fn place_of<D: Disk>(&mut self, disk: &mut D, at: u64, count: usize) -> Result<usize, Failed>
+    pub(crate) fn place_of<D: Disk>(
+        &mut self,
+        disk: &mut D,
+        at: u64,
+        count: usize,
+    ) -> Result<usize, Failed>
         requires window { (file : List ℕ) → D.holds disk.old ≡ Some file → IsWindow file self.old }
         requires within { self.old.filled ≤ length self.old.bytes.items }
         requires wide { count ≤ length self.old.bytes.items }

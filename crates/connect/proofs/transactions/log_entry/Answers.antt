@@ -8,7 +8,7 @@ pub returns-in_err-body-clause-left : goal.returns-in_err-body-clause-left
 returns-in_err-body-clause-left g c bodies told image left =
     left_for_memory c.from_residual.result c.args.entry c.args.coordinator.now.entries c.args.log.now.length c.prepare.new.log.length image c.from_residual.ensures.1
     (image_same c.prepare.new.log c.args.coordinator.now.entries (kept_prepared c.args.log.now c.args.coordinator.now.entries c.requires.kept c.prepare.new.log c.prepare.ensures.same) bodies (c.prepare.ensures.same.bodies ∙ told) image
-    (subst (λ (kind : ℕ). StandsFor kind bodies image) (sym c.prepare.ensures.same.kind) (c.rest.ensures c.requires.alive bodies told image (c.prepare.ensures.reads.fewer image left))))
+    (subst (λ (kind : ℕ). StandsFor kind bodies image) (sym c.prepare.ensures.same.kind) (c.rest.ensures.left c.requires.alive bodies told image (c.prepare.ensures.reads.fewer image left))))
 
 pub returns-then-not-fits-clause-happens : goal.returns-then-not-fits-clause-happens
 returns-then-not-fits-clause-happens g c =
@@ -25,7 +25,7 @@ returns-then-not-fits-clause-happens g c =
 pub returns-then-not-fits-clause-left : goal.returns-then-not-fits-clause-left
 returns-then-not-fits-clause-left g c bodies told image left =
     image_same c.prepare.new.log c.args.coordinator.now.entries (kept_prepared c.args.log.now c.args.coordinator.now.entries c.requires.kept c.prepare.new.log c.prepare.ensures.same) bodies (c.prepare.ensures.same.bodies ∙ told) image
-    (subst (λ (kind : ℕ). StandsFor kind bodies image) (sym c.prepare.ensures.same.kind) (c.rest.ensures c.requires.alive bodies told image (c.prepare.ensures.reads.fewer image left)))
+    (subst (λ (kind : ℕ). StandsFor kind bodies image) (sym c.prepare.ensures.same.kind) (c.rest.ensures.left c.requires.alive bodies told image (c.prepare.ensures.reads.fewer image left)))
 
 pub returns-in-Ok-clause-kept : goal.returns-in-Ok-clause-kept
 returns-in-Ok-clause-kept g c =
@@ -50,7 +50,7 @@ returns-in-Ok-clause-left g c bodies told image left =
     image_same c.append.new.self (c.args.coordinator.now.entries ++ c.args.entry ∷ [])
     (kept_more c.prepare.new.log c.args.coordinator.now.entries (kept_prepared c.args.log.now c.args.coordinator.now.entries c.requires.kept c.prepare.new.log c.prepare.ensures.same)
     c.args.entry c.in_ok-body.ensures.fits c.deref.result.now (c.deref.ensures.value ∙ c.in_ok-body.ensures.body) c.append.new.self c.requires.safe c.append.ensures.kind c.append.ensures.limit c.in-Ok.ensures.bodies c.in-Ok.ensures.length)
-    (bodies ++ c.deref.result.now ∷ []) now image (c.rest-in-Ok.ensures c.in-Ok.ensures.alive.1 (bodies ++ c.deref.result.now ∷ []) now image left)
+    (bodies ++ c.deref.result.now ∷ []) now image (c.rest-in-Ok.ensures.left c.in-Ok.ensures.alive.1 (bodies ++ c.deref.result.now ∷ []) now image left)
 
 pub returns-in-Ok-clause-any_moment : goal.returns-in-Ok-clause-any_moment
 returns-in-Ok-clause-any_moment g c bodies told =

@@ -46,3 +46,12 @@ returns-clause-adds g c file is =
     (reads_adds g.D.Disk.holds g.D.Disk.may_leave g.D.Disk.moment g.D.Disk.left_since g.D.Disk.count g.D.Disk.reserved g.met.D.Disk.counts_now c.args.disk.now c.scan.new.disk (StandAlike c.args.kind file) c.scan.ensures.reads)
     (adds_weaker g.D.Disk.moment g.D.Disk.left_since c.scan.new.disk c.trim.new.disk (HasFront (c.in_ok-found.found.gate + 1) file) (StandAlike c.args.kind file) (c.trim.ensures.adds file (c.scan.ensures.reads.same ∙ is))
     (λ image same. front_alike c.args.kind c.in_ok-found.found.gate (places_of c.in_ok-found.found) file image found.1.0 kept found.1.1 same))
+
+pub returns-clause-seen : goal.returns-clause-seen
+returns-clause-seen g c none now told =
+    let before = told_before (take (c.in_ok-found.found.gate + 1)) (g.D.Disk.holds c.scan.new.disk) now (sym c.in_ok-trim.ensures.done ∙ told) in
+    let file = before.0 in
+    let is = sym c.scan.ensures.reads.same ∙ before.1 in
+    let found = c.in_ok-found.ensures.found file is in
+    let end = trimmed c.in_ok-found.found.gate file found.1.0 now (gate_within c.in_ok-found.found.gate (places_of c.in_ok-found.found) file found.0).1 found.1.1 (sym before.2) in
+    subst (g.V.BodyVisitor.has_seen c.scan.new.visitor) (sym (bodies_front c.in_ok-found.found.gate (places_of c.in_ok-found.found) file now found.0 end.1)) (c.in_ok-found.ensures.seen file is none)

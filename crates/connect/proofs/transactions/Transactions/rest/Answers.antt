@@ -8,4 +8,4 @@ returns-clause-images g c alive bodies told image left =
     let there = ap (λ v. v.log.bodies) c.self.view_is ∙ told in
     subst (λ v. IsImage (store_of v) image) c.self.view_is
     (image_same c.self.inside.log c.self.inside.coordinator.entries c.self.invariant bodies there image
-    (c.rest.ensures (ap (λ v. v.log.shut) c.self.view_is ∙ alive) bodies there image (subst (λ v. g.D.Disk.may_leave v.log.disk image) (sym c.self.view_is) left)))
+    (c.rest.ensures.left (ap (λ v. v.log.shut) c.self.view_is ∙ alive) bodies there image (subst (λ v. g.D.Disk.may_leave v.log.disk image) (sym c.self.view_is) left)))

@@ -3,7 +3,7 @@ use Rattle.cw_log.specs.Log.{StandsFor, bodies_at, kind_of, places_of}
 use Rattle.cw_disk.specs.Disk.{Adds}
 use Rattle.cw_disk.proofs.Moments.{adds_left}
 use Rattle.cw_log.specs.Log.{StandAlike}
-use Rattle.cw_log.proofs.topic.TopicLog.open_log.Goals as goal
+use Rattle.cw_log.proofs.topic.TopicLog.open_with.Goals as goal
 
 pub invariant_of-result : goal.invariant_of-result
 invariant_of-result g c = record {

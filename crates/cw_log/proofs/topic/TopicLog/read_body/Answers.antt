@@ -4,7 +4,7 @@ use Rattle.cw_log.proofs.Gates.{told_before}
 use Rattle.cw_log.proofs.Opened.{gate_within}
 use Rattle.cw_log.proofs.Appended.{log_read, room_read, keeps_frames, body_at}
 use Rattle.cw_log.proofs.Starts.{length-places_before}
-use Rattle.cw_log.proofs.topic.TopicLog.read_body_into.Goals as goal
+use Rattle.cw_log.proofs.topic.TopicLog.read_body.Goals as goal
 
 pub invariant_of-self : goal.invariant_of-self
 invariant_of-self g c =
