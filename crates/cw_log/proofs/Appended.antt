@@ -9,7 +9,7 @@ use Rattle.std.specs.Prelude.{Vec, vec_capacity}
 use Rattle.std.specs.declared.alloc.Global.{Global}
 use Rattle.cw_log.specs.Calls.{Reads, IsAhead}
 use Rattle.cw_log.specs.declared.window.Window.{Window}
-use Rattle.cw_log.specs.State.{IsKept, IsRest, IsLog, HasRoom, KeepsFrames}
+use Rattle.cw_log.specs.State.{IsKept, IsRest, IsLog, IsKnown, HasRoom, KeepsFrames}
 use Rattle.cw_log.proofs.Frames.{length-field, frames_push, places_push, frames_length}
 use Rattle.cw_log.proofs.Opened.{bodies_are, front_is, head_is, gate_within, kept_front, kept_stands, bodies_front}
 use Rattle.cw_log.proofs.Gates.{told_before}
@@ -151,11 +151,13 @@ body_at gate places file i place b low is = (
 -- a log whose disk was read, with other room
 module _ {D : Type 0} (holds : D → Option (List ℕ)) (may_leave : D → List ℕ → Type 0) (moment : D → ℕ) (left_since : D → ℕ → List ℕ → Type 0) (count reserved : D → ℕ) where
   pub log_read : (old new : D) (kind ready ready' : ℕ) (frames frames' : Frames) (tail tail' : Vec ℕ Global) (ahead ahead' : Option Window) (shut : Bool) → IsLog holds may_leave reserved old kind ready frames tail ahead shut
-      → Reads holds may_leave moment left_since count reserved old new → KeepsFrames frames frames' → (0 < ready' → HasRoom reserved new ready' frames' tail') → IsAhead (holds old) ahead' → IsLog holds may_leave reserved new kind ready' frames' tail' ahead' shut
-  log_read old new kind ready ready' frames frames' tail tail' ahead ahead' shut log reads keeps room is_ahead = record {
+      → Reads holds may_leave moment left_since count reserved old new → KeepsFrames frames frames' → ((file : List ℕ) → holds old ≡ Some file → IsKnown frames'.known frames'.starts.items)
+      → (0 < ready' → HasRoom reserved new ready' frames' tail') → IsAhead (holds old) ahead' → IsLog holds may_leave reserved new kind ready' frames' tail' ahead' shut
+  log_read old new kind ready ready' frames frames' tail tail' ahead ahead' shut log reads keeps known room is_ahead = record {
     kept = λ file is. subst (λ (n : ℕ). IsKept kind n (places_before n frames'.starts.items) file) (sym keeps.gate)
         (subst (λ (l : List ℕ). IsKept kind frames.gate (places_before frames.gate l) file) (sym keeps.starts) (log.kept file (sym reads.same ∙ is)));
     rest = λ alive file is. subst (λ (n : ℕ). IsRest n (may_leave new) file) (sym keeps.gate) (rest_read frames.gate file (may_leave old) (may_leave new) reads.fewer (log.rest alive file (sym reads.same ∙ is)));
+    known = λ file is. known file (sym reads.same ∙ is);
     low = omega (arith, log.low, keeps.gate);
     high = omega (arith, log.high, keeps.gate);
     room = room;
@@ -163,10 +165,7 @@ module _ {D : Type 0} (holds : D → Option (List ℕ)) (may_leave : D → List 
   }
 
   pub room_read : (old new : D) (ready : ℕ) (frames frames' : Frames) (tail tail' : Vec ℕ Global) → HasRoom reserved old ready frames tail → reserved old ≤ reserved new → vec_capacity tail ≤ vec_capacity tail' → KeepsFrames frames frames' → HasRoom reserved new ready frames' tail'
-  room_read old new ready frames frames' tail tail' room more tails keeps = record { frame = omega (arith, room.frame, tails); place = omega (arith, room.place, keeps.room, keeps.count); bytes = omega (arith, room.bytes, more, keeps.gate) }
-
-pub keeps_frames : (frames : Frames) → KeepsFrames frames frames
-keeps_frames frames = record { starts = refl; gate = refl; count = refl; room = omega arith }
+  room_read old new ready frames frames' tail tail' room more tails keeps = record { frame = omega (arith, room.frame, tails); place = keeps.room room.place; bytes = omega (arith, room.bytes, more, keeps.gate) }
 
 -- the numbers of a log are those of its list
 pub told_count : (gate : ℕ) (places : List Place) (file : List ℕ) (bodies : List (List ℕ)) → bodies_at places file ≡ bodies → length places ≡ length bodies

@@ -1,5 +1,5 @@
 -- What the calls of a log add to the images of its disk.
-use Rattle.std.proofs.Common.{◌≡◌, ◌≤◌, refl, inl, inr, ℕ, ◌+◌, List, [], ◌∷◌, ◌++◌, length, get_or, take, drop, sym, ◌∙◌, ap, subst, arith, append_assoc, length-append, take-append-drop, Option, Some, None, option_map}
+use Rattle.std.proofs.Common.{is_some, ◌≡◌, ◌≤◌, refl, inl, inr, ℕ, ◌+◌, List, [], ◌∷◌, ◌++◌, length, get_or, take, drop, sym, ◌∙◌, ap, subst, arith, append_assoc, length-append, take-append-drop, Option, Some, None, option_map}
 use Rattle.std.proofs.lemmas.List.{drop_at, drop_more, take_all, drop_all, append-nil, take-append-le}
 use Rattle.cw_disk.specs.Disk.{written, Torn, Cut, Follows, Only, Elapses, Adds}
 use Rattle.cw_disk.proofs.Moments.{adds_none, adds_weaker, adds_then, adds_call, adds_nothing}
@@ -86,3 +86,8 @@ module _ (file : List ℕ) (gate : ℕ) (tail : List ℕ) (gated : gate + 1 ≡ 
 pub told_alike : {A B : Type 0} (f h : A → B) (o : Option A) → ((a : A) → o ≡ Some a → f a ≡ h a) → option_map f o ≡ option_map h o
 told_alike f h None alike = refl
 told_alike f h (Some a) alike = ap Some (alike a refl)
+
+-- what is told now was told before
+pub told_too : (before after : Option (List ℕ)) → is_some after ≡ is_some before → (file : List ℕ) → after ≡ Some file → (old : List ℕ) × (before ≡ Some old)
+told_too None after told file is = absurd (let e = ap is_some is in cc)
+told_too (Some old) after told file is = (old, refl)

@@ -3,6 +3,7 @@ pub mod Made
 pub mod Windows
 pub mod Starts
 pub mod Frames
+pub mod Begun
 pub mod Opened
 pub mod Appended
 pub mod OneReading

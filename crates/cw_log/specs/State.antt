@@ -1,5 +1,5 @@
 -- A log, as contracts see it: its list, how many bytes it has, and what a stop leaves of it.
-use Rattle.std.specs.Prelude.{◌≡◌, ◌≤◌, ◌<◌, ◌+◌, ◌-◌, ◌^◌, ◌++◌, ◌∷◌, [], min, ℕ, List, Option, Some, Bool, false, length, take, vec_capacity, vec_len, Vec}
+use Rattle.std.specs.Prelude.{◌≡◌, ◌≤◌, ◌<◌, ◌+◌, ◌-◌, ◌^◌, ◌++◌, ◌∷◌, [], min, ℕ, List, Option, Some, None, Bool, false, length, take, vec_capacity, vec_len, Vec}
 use Rattle.std.specs.declared.alloc.Global.{Global}
 use Rattle.cw_disk.specs.Disk.{Only}
 use Rattle.cw_log.specs.Calls.{IsAhead}
@@ -76,17 +76,31 @@ pub record OpensTo (kind : ℕ) (places : List Place) (now : Option (List ℕ)) 
 abbrev pub HasFront : ℕ → List ℕ → List ℕ → Type 0
 HasFront n file other = take n other ≡ take n file
 
--- the same frames, in as much room or more
+-- what is known of where frames begin, if anything, is where they do
+abbrev pub IsKnown : Option (Vec ℕ Global) → List ℕ → Type 0
+IsKnown None starts = Unit {0}
+IsKnown (Some known) starts = known.items ≡ starts
+
+-- it is known where the frames begin
+abbrev pub IsFound : Option (Vec ℕ Global) → List ℕ → Type 0
+IsFound None starts = ⊥
+IsFound (Some known) starts = known.items ≡ starts
+
+-- one begin more takes no memory
+abbrev pub HasPlace : Option (Vec ℕ Global) → Type 0
+HasPlace None = Unit {0}
+HasPlace (Some known) = vec_len known < vec_capacity known
+
+-- the same frames; there is room for one more where there was
 pub record KeepsFrames (old new : Frames) : Type 0 where
   pub starts : new.starts.items ≡ old.starts.items
   pub gate : new.gate ≡ old.gate
-  pub count : vec_len new.starts ≡ vec_len old.starts
-  pub room : vec_capacity old.starts ≤ vec_capacity new.starts
+  pub room : HasPlace old.known → HasPlace new.known
 
 -- there is room for a body of so many bytes, as far as numbers go
 pub record HasRoom {D : Type 0} (reserved : D → ℕ) (disk : D) (ready : ℕ) (frames : Frames) (tail : Vec ℕ Global) : Type 0 where
   pub frame : min (ready + 5) (2 ^ 64 - 1) ≤ vec_capacity tail
-  pub place : vec_len frames.starts < vec_capacity frames.starts
+  pub place : HasPlace frames.known
   pub bytes : min (frames.gate + 1 + (ready + 5)) (2 ^ 64 - 1) ≤ reserved disk
 
 -- what each fault of an append says
@@ -110,6 +124,7 @@ cause_of_read reads.Memory = opens.Memory
 pub record IsLog {D : Type 0} (holds : D → Option (List ℕ)) (may_leave : D → List ℕ → Type 0) (reserved : D → ℕ) (disk : D) (kind ready : ℕ) (frames : Frames) (tail : Vec ℕ Global) (ahead : Option Window) (shut : Bool) : Type 0 where
   pub kept : (file : List ℕ) → holds disk ≡ Some file → IsKept kind frames.gate (places_of frames) file
   pub rest : shut ≡ false → (file : List ℕ) → holds disk ≡ Some file → IsRest frames.gate (may_leave disk) file
+  pub known : (file : List ℕ) → holds disk ≡ Some file → IsKnown frames.known frames.starts.items
   pub low : 16 ≤ frames.gate
   pub high : frames.gate + 1 < 2 ^ 64
   pub room : 0 < ready → HasRoom reserved disk ready frames tail

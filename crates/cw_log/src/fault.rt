@@ -62,17 +62,6 @@ impl From<AllocError> for OpenCause {
     }
 }
 
-impl<T: Drop> From<AllocFailed<T>> for OpenCause {
-    ghost use Rattle.std.specs.Prelude.{◌≡◌};
-    ghost use Rattle.cw_log.specs.declared.fault.OpenCause.TheVariants.{Memory};
-
-    ghost from_gives = { λ _ cause. cause ≡ Memory };
-
-    fn from(_: AllocFailed<T>) -> Self {
-        OpenCause::Memory
-    }
-}
-
 impl From<ReadFault> for OpenCause {
     ghost use Rattle.std.specs.Prelude.{◌≡◌};
     ghost use Rattle.cw_log.specs.State.{cause_of_read};
@@ -154,6 +143,17 @@ impl From<AllocError> for ReadFault {
     ghost from_gives = { λ _ fault. fault ≡ Memory };
 
     fn from(_: AllocError) -> Self {
+        ReadFault::Memory
+    }
+}
+
+impl<T: Drop> From<AllocFailed<T>> for ReadFault {
+    ghost use Rattle.std.specs.Prelude.{◌≡◌};
+    ghost use Rattle.cw_log.specs.declared.fault.ReadFault.TheVariants.{Memory};
+
+    ghost from_gives = { λ _ fault. fault ≡ Memory };
+
+    fn from(_: AllocFailed<T>) -> Self {
         ReadFault::Memory
     }
 }

@@ -9,6 +9,7 @@
 mod body_log;
 mod calls;
 mod fault;
+mod find;
 mod frame;
 mod law;
 mod make;

@@ -11,6 +11,7 @@ use crate::make::make;
 use crate::scan::scan;
 use crate::{BodyVisitor, Frames, Harm, OpenCause};
 use cw_disk::{Disk, Failed};
+use cw_types::Past;
 use std::alloc::Global;
 
 // The first 16 bytes, as far as there are so many.
@@ -80,6 +81,7 @@ fn open_made<D: Disk, V: BodyVisitor>(
     ensures kept { IfOk result (λ found. (file : List ℕ) → D.holds disk.new ≡ Some file → IsKept kind found.gate (places_of found) file × IsRest found.gate (D.may_leave disk.new) file) }
     ensures list { IfOk result (λ found. (file : List ℕ) → D.holds disk.old ≡ Some file → OpensTo kind (places_of found) (D.holds disk.new) file) }
     ensures seen { IfOk result (λ found. V.has_seen visitor.old [] → (now : List ℕ) → D.holds disk.new ≡ Some now → V.has_seen visitor.new (bodies_at (places_of found) now)) }
+    ensures unknown { IfOk result (λ found. found.known ≡ None) }
     ensures gate { IfOk result (λ found. (16 ≤ found.gate) × (found.gate + 1 < 2 ^ 64)) }
     ensures told { OnOk result (is_some (D.holds disk.new) ≡ is_some (D.holds disk.old)) }
     ensures cause { IfErr result (OnCause
@@ -104,13 +106,14 @@ fn open_made<D: Disk, V: BodyVisitor>(
 }
 
 // Makes a log of an unmade file of this size.
-fn open_new<D: Disk>(alloc: Global, disk: &mut D, kind: u8, size: u64) -> Result<Frames, OpenCause>
+fn open_new<D: Disk>(disk: &mut D, kind: u8, size: u64) -> Result<Frames, OpenCause>
     requires size { (file : List ℕ) → D.holds disk.old ≡ Some file → size ≡ length file }
     requires settled { (file : List ℕ) → D.holds disk.old ≡ Some file → Only file (D.may_leave disk.old) }
     requires unmade { (file : List ℕ) → D.holds disk.old ≡ Some file → IsUnmade file }
     ensures kept { IfOk result (λ found. (file : List ℕ) → D.holds disk.new ≡ Some file → IsKept kind found.gate (places_of found) file × IsRest found.gate (D.may_leave disk.new) file) }
     ensures list { IfOk result (λ found. (file : List ℕ) → D.holds disk.old ≡ Some file → OpensTo kind (places_of found) (D.holds disk.new) file) }
     ensures none { IfOk result (λ found. places_of found ≡ []) }
+    ensures unknown { IfOk result (λ found. found.known ≡ None) }
     ensures gate { IfOk result (λ found. (16 ≤ found.gate) × (found.gate + 1 < 2 ^ 64)) }
     ensures told { OnOk result (is_some (D.holds disk.new) ≡ is_some (D.holds disk.old)) }
     ensures cause { IfErr result (OnCause (λ at harm. ⊥) (Rose (D.count disk.old) (D.count disk.new)) (D.holds disk.new ≡ D.holds disk.old)) }
@@ -120,7 +123,9 @@ fn open_new<D: Disk>(alloc: Global, disk: &mut D, kind: u8, size: u64) -> Result
     prepare(disk, 17)?;
     make(disk, kind, size)?;
     Ok(Frames {
-        starts: Vec::new(alloc),
+        starts: Past::new(),
+        count: 0,
+        known: None,
         gate: 16,
     })
 }
@@ -135,6 +140,7 @@ pub(crate) fn opened<D: Disk, V: BodyVisitor>(
     ensures kept { IfOk result (λ found. (file : List ℕ) → D.holds disk.new ≡ Some file → IsKept kind found.gate (places_of found) file × IsRest found.gate (D.may_leave disk.new) file) }
     ensures list { IfOk result (λ found. (file : List ℕ) → D.holds disk.old ≡ Some file → OpensTo kind (places_of found) (D.holds disk.new) file) }
     ensures seen { IfOk result (λ found. V.has_seen visitor.old [] → (now : List ℕ) → D.holds disk.new ≡ Some now → V.has_seen visitor.new (bodies_at (places_of found) now)) }
+    ensures unknown { IfOk result (λ found. found.known ≡ None) }
     ensures gate { IfOk result (λ found. (16 ≤ found.gate) × (found.gate + 1 < 2 ^ 64)) }
     ensures told { OnOk result (is_some (D.holds disk.new) ≡ is_some (D.holds disk.old)) }
     ensures cause { IfErr result (OnCause
@@ -146,7 +152,7 @@ pub(crate) fn opened<D: Disk, V: BodyVisitor>(
 {
     let (size, head) = first_part(disk)?;
     if size < 2 || head[0] == 0 {
-        return open_new(alloc, disk, kind, size);
+        return open_new(disk, kind, size);
     }
     open_made(alloc, disk, kind, size, &head, visitor)
 }

@@ -1,4 +1,7 @@
 // Where the frames of a file lie, and what stands where one is due.
+ghost use Rattle.std.specs.Prelude.{◌≡◌, ◌≤◌, ◌<◌, ◌+◌, ◌^◌, [], ◌∷◌, ◌++◌, length, OnOk, slice_index_or};
+
+use cw_types::Past;
 use std::alloc::AllocError;
 
 /// Where a frame begins, and how long its body is.
@@ -19,73 +22,106 @@ pub enum Frame {
     Open(u64),
 }
 
-/// The frames of a file: where each begins, and the closed gate behind the last one. A frame ends where
-/// the next one begins, so this tells how long its body is too.
+/// The frames of a file: how many there are, and the closed gate behind the last one. Where each begins is ghost data until a
+/// body is asked for: then it is looked for, and kept. A frame ends where the next one begins, so this tells how long its body is too.
 #[derive(Drop)]
 pub struct Frames {
-    pub(crate) starts: Vec<u64>,
+    pub(crate) starts: Past<u64>,
+    pub(crate) count: u64,
+    pub(crate) known: Option<Vec<u64>>,
     pub(crate) gate: u64,
+    ghost counted: { count ≡ length starts.items },
+    ghost low: { count ≤ gate },
 }
 
 impl Frames {
-    ghost use Rattle.std.specs.Prelude.{◌≡◌, ◌≤◌, ◌<◌, ◌+◌, ◌^◌, [], ◌∷◌, ◌++◌, OnOk, OnErr, vec_capacity, vec_len, slice_index_or};
     ghost use Rattle.cw_log.specs.Log.{places_of};
-    ghost use Rattle.cw_log.specs.State.{KeepsFrames};
+    ghost use Rattle.cw_log.specs.State.{HasPlace, IsFound, IsKnown, KeepsFrames};
 
     /// How many there are.
     #[inline]
     pub(crate) fn count(&self) -> u64
-        ensures { result ≡ vec_len self.now.starts }
+        ensures { result ≡ length self.now.starts.items }
     {
-        self.starts.len() as u64
+        self.count
     }
 
-    /// Where the frame of this number lies. Those of a file begin more than five bytes apart; where two
-    /// did not, the length would be 0.
+    /// Where the frame of this number lies, once all were looked for. Those of a file begin more than five bytes apart; where
+    /// two did not, the length would be 0.
     #[inline]
     pub(crate) fn get(&self, index: u64) -> Place
-        requires { index < vec_len self.now.starts }
-        ensures { result ≡ slice_index_or (places_of self.now) index result }
+        requires { index < length self.now.starts.items }
+        ensures { IsFound self.now.known self.now.starts.items → result ≡ slice_index_or (places_of self.now) index result }
     {
-        let at = self.starts[index as usize];
-        let end = self.start(index as usize + 1);
+        let at = self.start(index);
+        let end = self.start(index + 1);
         Place {
             at,
             length: end.saturating_sub(at.saturating_add(5)),
         }
     }
 
-    // Where the frame of this number begins, or the gate where there is none.
+    // Where the frame of this number begins, or the gate where there is none or it wasn't found.
     #[inline]
-    fn start(&self, index: usize) -> u64
-        ensures { result ≡ slice_index_or self.now.starts.items index self.now.gate }
+    fn start(&self, index: u64) -> u64
+        ensures { IsFound self.now.known self.now.starts.items → result ≡ slice_index_or self.now.starts.items index self.now.gate }
     {
-        if index < self.starts.len() {
-            return self.starts[index];
+        match &self.known {
+            Some(starts) => start_in(starts, index, self.gate),
+            None => self.gate,
         }
-        self.gate
     }
 
     /// Takes the memory of one more.
     pub(crate) fn reserve(&mut self) -> Result<(), AllocError>
-        ensures room { OnOk result (vec_len self.new.starts < vec_capacity self.new.starts) }
+        ensures room { OnOk result (HasPlace self.new.known) }
         ensures keeps { KeepsFrames self.old self.new }
+        ensures known { IsKnown self.old.known self.old.starts.items → IsKnown self.new.known self.new.starts.items }
     {
-        self.starts.reserve(1)
+        match &mut self.known {
+            Some(starts) => starts.reserve(1),
+            None => Ok(()),
+        }
     }
 
     /// One more at the gate, whose body has this length, in the room that is there.
     #[inline]
     pub(crate) fn push(&mut self, length: u64)
-        requires room { vec_len self.old.starts < vec_capacity self.old.starts }
+        requires room { HasPlace self.old.known }
         requires fits { self.old.gate + (length + 5) < 2 ^ 64 }
         ensures places { places_of self.new ≡ places_of self.old ++ record { at = self.old.gate; length = length } ∷ [] }
         ensures gate { self.new.gate ≡ self.old.gate + (length + 5) }
-        ensures count { vec_len self.new.starts ≡ vec_len self.old.starts + 1 }
+        ensures count { self.new.count ≡ self.old.count + 1 }
+        ensures known { IsKnown self.old.known self.old.starts.items → IsKnown self.new.known self.new.starts.items }
     {
-        let Ok(()) = self.starts.push(self.gate) else {
-            unreachable!()
-        };
+        if let Some(starts) = &mut self.known {
+            push_start(starts, self.gate);
+        }
+        self.starts = self.starts.and(&self.gate);
+        self.count += 1;
         self.gate += length + 5;
     }
+}
+
+ghost use Rattle.std.specs.Prelude.{vec_capacity, vec_len};
+
+// The start of this number, or another where there is none.
+#[inline]
+fn start_in(starts: &[u64], index: u64, other: u64) -> u64
+    ensures { result ≡ slice_index_or starts.now index other }
+{
+    match starts.get(index as usize) {
+        Some(start) => *start,
+        None => other,
+    }
+}
+
+// One start more, in the room that is there.
+fn push_start(starts: &mut Vec<u64>, start: u64)
+    requires { vec_len starts.old < vec_capacity starts.old }
+    ensures { starts.new.items ≡ starts.old.items ++ start ∷ [] }
+{
+    let Ok(()) = starts.push(start) else {
+        unreachable!()
+    };
 }

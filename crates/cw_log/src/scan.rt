@@ -1,5 +1,5 @@
 // Reading the frames of a made file.
-ghost use Rattle.std.specs.Prelude.{◌≡◌, ◌≤◌, ◌<◌, ◌+◌, ◌-◌, ◌^◌, ◌++◌, ◌∷◌, [], List, ℕ, Some, length, take, drop, IfOk, IfErr, OnOk, OnErr};
+ghost use Rattle.std.specs.Prelude.{◌≡◌, ◌≤◌, ◌<◌, ◌+◌, ◌-◌, ◌^◌, ◌++◌, ◌∷◌, [], List, ℕ, Some, None, length, take, drop, IfOk, IfErr, OnOk, OnErr};
 ghost use Rattle.cw_types.specs.Faults.{Rose};
 ghost use Rattle.cw_log.specs.Calls.{Reads, Shows, IsWindow};
 ghost use Rattle.cw_log.specs.Log.{IsFrame, EndsWithin, Begins, BreaksAt, OnCause, bodies_at, length_of, places_of};
@@ -7,6 +7,7 @@ ghost use Rattle.cw_log.specs.Log.{IsFrame, EndsWithin, Begins, BreaksAt, OnCaus
 use crate::calls::read_part;
 use crate::{BodyVisitor, Frame, Frames, Harm, OpenCause, Window};
 use cw_disk::{Disk, Failed};
+use cw_types::Past;
 use std::alloc::Global;
 
 // The frame that five bytes show, where so many are left in the file.
@@ -32,7 +33,12 @@ fn frame_of(five: &[u8], left: u64) -> Frame
 
 // The frame at a place of a file of this size.
 #[inline]
-fn frame_at<D: Disk>(disk: &mut D, window: &mut Window, at: u64, size: u64) -> Result<Frame, Failed>
+pub(crate) fn frame_at<D: Disk>(
+    disk: &mut D,
+    window: &mut Window,
+    at: u64,
+    size: u64,
+) -> Result<Frame, Failed>
     requires size { (file : List ℕ) → D.holds disk.old ≡ Some file → size ≡ length file }
     requires window { (file : List ℕ) → D.holds disk.old ≡ Some file → IsWindow file window.old }
     requires within { window.old.filled ≤ length window.old.bytes.items }
@@ -95,17 +101,26 @@ pub(crate) fn scan<D: Disk, V: BodyVisitor>(
     requires long { 16 ≤ size }
     ensures found { IfOk result (λ found. (file : List ℕ) → D.holds disk.old ≡ Some file → Begins found.gate (places_of found) file × IsFrame Frame.Closed (drop found.gate file)) }
     ensures seen { IfOk result (λ found. (file : List ℕ) → D.holds disk.old ≡ Some file → V.has_seen visitor.old [] → V.has_seen visitor.new (bodies_at (places_of found) file)) }
+    ensures unknown { IfOk result (λ found. found.known ≡ None) }
     ensures gate { IfOk result (λ found. (16 ≤ found.gate) × (found.gate < size)) }
     ensures cause { IfErr result (OnCause (λ at harm. (harm ≡ Harm.Length) × ((file : List ℕ) → D.holds disk.old ≡ Some file → BreaksAt at file)) (Rose (D.count disk.old) (D.count disk.new)) (Unit {0})) }
     ensures reads { Reads D.holds D.may_leave D.moment D.left_since D.count D.reserved disk.old disk.new }
 {
-    let mut starts = Vec::new(alloc);
+    let mut starts = Past::new();
+    let mut count = 0;
     let mut window = Window::new(alloc)?;
     let mut at = 16;
     visitor.expect(size);
     'frames: loop {
         match frame_at(disk, &mut window, at, size)? {
-            Frame::Closed => return Ok(Frames { starts, gate: at }),
+            Frame::Closed => {
+                return Ok(Frames {
+                    starts,
+                    count,
+                    known: None,
+                    gate: at,
+                });
+            }
             Frame::Broken => {
                 return Err(OpenCause::Damaged {
                     at,
@@ -114,7 +129,8 @@ pub(crate) fn scan<D: Disk, V: BodyVisitor>(
             }
             Frame::Open(length) => {
                 show(alloc, disk, &mut window, at, length, visitor)?;
-                starts.push(at)?;
+                starts = starts.and(&at);
+                count += 1;
                 at += 5 + length;
             }
         }

@@ -1,8 +1,8 @@
 // The bytes of the format, which harm is met where, and a stop in every device call.
-use crate::{AppendFault, BodyLog, Harm, OpenCause, ReadFault, TopicLog};
+use crate::{AppendFault, BodyLog, BodyVisitor, Harm, OpenCause, ReadFault, TopicLog};
 use cw_disk::{Disk, MemDisk, Way};
 use cw_types::LogName;
-use std::alloc::Global;
+use std::alloc::{AllocError, Global};
 use std::process::Abort;
 use std::test::Fail;
 
@@ -191,43 +191,83 @@ fn a_failed_append_shuts_the_log(rt: HostRuntime) -> Result<(), Fail> {
 #[test]
 fn bodies_are_read_behind_an_append_too(rt: HostRuntime) -> Result<(), Fail> {
     let alloc = rt.alloc();
-    let disk = disk_of(alloc, TWO, u64::MAX)?;
-    let mut log = TopicLog::open_log(alloc, disk, LogName::Txn, 1000).map_err(|fault| fault.cause)?;
-    holds_just(&rt, &mut log, &ALL[..2])?;
-    assert_eq!(rt; add(&mut log, ALL[2]), Ok(2));
-    holds_just(&rt, &mut log, &ALL[..3])
+    for is_read_before in [false, true] {
+        let disk = disk_of(alloc, TWO, u64::MAX)?;
+        let mut log = TopicLog::open_log(alloc, disk, LogName::Txn, 1000).map_err(
+            |fault| fault.cause,
+        )?;
+        if is_read_before {
+            holds_just(&rt, &mut log, &ALL[..2])?;
+        }
+        assert_eq!(rt; add(&mut log, ALL[2]), Ok(2));
+        holds_just(&rt, &mut log, &ALL[..3])?;
+    }
+    Ok(())
 }
 
-// A log with the bodies `xy`, `z`, this long one of 70,000 bytes and `ab`.
-fn log_around(alloc: Global, long: &[u8]) -> Result<TopicLog<MemDisk>, Fail> {
+// A disk with the bodies `xy`, `z`, this long one of 70,000 bytes and `ab`.
+fn disk_around(alloc: Global, long: &[u8]) -> Result<MemDisk, Fail> {
     let mut bytes = TWO[..TWO.len() - 1].to_vec(alloc)?;
     bytes.extend_from_slice(b"\x01\0\x01\x11\x70")?;
     bytes.extend_from_slice(long)?;
     bytes.extend_from_slice(b"\x01\0\0\0\x02ab\0")?;
-    let disk = disk_of(alloc, &bytes, u64::MAX)?;
-    Ok(TopicLog::open_log(alloc, disk, LogName::Txn, 1000).map_err(|fault| fault.cause)?)
+    disk_of(alloc, &bytes, u64::MAX)
 }
 
 #[test]
 fn a_long_body_is_read_between_short_ones(rt: HostRuntime) -> Result<(), Fail> {
     let alloc = rt.alloc();
     let long = vec![in alloc; 7u8; 70_000]?;
-    let mut log = log_around(alloc, &long)?;
+    let disk = disk_around(alloc, &long)?;
+    let mut log = TopicLog::open_log(alloc, disk, LogName::Txn, 1000).map_err(|fault| fault.cause)?;
     holds_just(&rt, &mut log, &[b"xy", b"z", &long, b"ab"])
 }
 
+// Whoever keeps what it is shown.
+#[derive(Drop)]
+struct Keeper {
+    alloc: Global,
+    size: u64,
+    bodies: Vec<Vec<u8>>,
+    gates: Vec<u64>,
+}
+
+impl BodyVisitor for Keeper {
+    ghost has_seen = { λ _ _. Unit {0} };
+
+    fn expect(&mut self, size: u64) {
+        self.size = size;
+    }
+
+    fn see(&mut self, body: &[u8], gate: u64) -> Result<(), AllocError> {
+        self.bodies.push(body.to_vec(self.alloc)?)?;
+        self.gates.push(gate)?;
+        Ok(())
+    }
+}
+
 #[test]
-fn a_buffer_holds_the_body_that_was_read_last(rt: HostRuntime) -> Result<(), Fail> {
+fn a_visitor_is_shown_each_body_with_its_gate(rt: HostRuntime) -> Result<(), Fail> {
     let alloc = rt.alloc();
     let long = vec![in alloc; 7u8; 70_000]?;
-    let mut log = log_around(alloc, &long)?;
-    let mut body = b"what was there".to_vec(alloc)?;
-    let expected: [(u64, &[u8]); 4] = [(0, b"xy"), (1, b"z"), (2, &long), (3, b"ab")];
-    for (index, bytes) in expected {
-        if index < log.count() {
-            log.read_body_into(index, &mut body)?;
-            assert_eq!(rt; body.as_slice(), bytes);
-        }
+    let disk = disk_around(alloc, &long)?;
+    let size = disk.bytes().len() as u64;
+    let mut keeper = Keeper {
+        alloc,
+        size: 0,
+        bodies: Vec::new(alloc),
+        gates: Vec::new(alloc),
+    };
+    let _ = TopicLog::open_with(alloc, disk, LogName::Txn, 1000, &mut keeper).map_err(
+        |fault| fault.cause,
+    )?;
+    assert_eq!(rt; keeper.size, size);
+    let gates: [u64; 4] = [16, 23, 29, 70_034];
+    assert_eq!(rt; keeper.gates.as_slice(), gates.as_slice());
+    let expected: [&[u8]; 4] = [b"xy", b"z", &long, b"ab"];
+    assert_eq!(rt; keeper.bodies.len(), expected.len());
+    for (shown, body) in keeper.bodies.iter().zip(expected) {
+        assert_eq!(rt; shown.as_slice(), body);
     }
     Ok(())
 }

@@ -7,9 +7,9 @@ ghost use Rattle.cw_log.specs.Log.{StandsFor, StandAlike, BeforeOrAfter, IsDamag
 ghost use Rattle.cw_log.specs.State.{LogState, OnAppendFault, OnReadFault, OpensTo, IsSameLog, HasSameList, IsAppendable};
 
 use crate::calls::prepare;
+use crate::find::read_one;
 use crate::frame::write_frame;
 use crate::open::opened;
-use crate::window::read_ahead;
 use crate::{AppendFault, BodyVisitor, Frames, Nobody, OpenFault, ReadFault, Window};
 use cw_disk::{Disk, Failed, Memory};
 use cw_types::LogName;
@@ -40,7 +40,7 @@ impl<D: Disk> Model for TopicLog<D> {
 
     ghost Value = { LogState D };
 
-    ghost view = { λ l. record { disk = l.disk; kind = l.kind; bodies = option_map (bodies_at (places_of l.frames)) (D.holds l.disk); count = length l.frames.starts.items; length = l.frames.gate + 1; limit = l.limit; ready = l.ready; shut = l.shut; failed = option_map (λ n. (0, n)) l.failed } };
+    ghost view = { λ l. record { disk = l.disk; kind = l.kind; bodies = option_map (bodies_at (places_of l.frames)) (D.holds l.disk); count = l.frames.count; length = l.frames.gate + 1; limit = l.limit; ready = l.ready; shut = l.shut; failed = option_map (λ n. (0, n)) l.failed } };
 
     ghost invariant = { λ l. IsLog D.holds D.may_leave D.reserved l.disk l.kind l.ready l.frames l.tail l.ahead l.shut };
 }
@@ -221,7 +221,7 @@ impl<D: Disk> TopicLog<D> {
         self.frames.gate + 1
     }
 
-    /// The body of this number, which is below the count.
+    /// The body of this number, which is below the count. The first such call looks for all frames, and keeps where each begins.
     pub fn read_body(&mut self, index: u64) -> Result<Vec<u8>, ReadFault>
         requires { index < self.old.count }
         ensures body { IfOk result (λ body. (bodies : List (List ℕ)) → self.old.bodies ≡ Some bodies → body.items ≡ slice_index_or bodies index []) }
@@ -232,17 +232,14 @@ impl<D: Disk> TopicLog<D> {
         ensures same { HasSameList self.old self.new }
         ensures reads { Reads D.holds D.may_leave D.moment D.left_since D.count D.reserved self.old.disk self.new.disk }
     {
-        let place = self.frames.get(index);
-        let mut body = Vec::new(self.alloc);
-        match read_ahead(
+        match read_one(
             self.alloc,
-            &mut self.ahead,
             &mut self.disk,
-            place.at.saturating_add(5),
-            place.length as usize,
-            &mut body,
+            &mut self.frames,
+            &mut self.ahead,
+            index,
         ) {
-            Ok(()) => Ok(body),
+            Ok(body) => Ok(body),
             Err(ReadFault::Memory) => Err(ReadFault::Memory),
             Err(ReadFault::Failed) => {
                 self.failed = Some(self.disk.faults());

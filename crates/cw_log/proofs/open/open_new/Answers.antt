@@ -9,7 +9,7 @@ use Rattle.cw_log.proofs.open.open_new.Goals as goal
 pub returns-clause-kept : goal.returns-clause-kept
 returns-clause-kept g c file is =
     let before = told_before (λ (f : List ℕ). new_log c.args.kind) _ file (sym c.in_ok-make.ensures.done ∙ is) in (
-      subst (λ (l : List ℕ). IsKept c.args.kind 16 (places_before 16 l) file) (sym c.new.ensures.items) (subst (IsKept c.args.kind 16 []) before.2 (new_kept c.args.kind)),
+      subst (λ (l : List ℕ). IsKept c.args.kind 16 (places_before 16 l) file) (sym c.new.ensures) (subst (IsKept c.args.kind 16 []) before.2 (new_kept c.args.kind)),
       record { end = subst (λ (f : List ℕ). f ≡ take 16 f ++ 0 ∷ []) before.2 (new_end c.args.kind); only = c.in_ok-make.ensures.durable file is },
     )
 

@@ -1,4 +1,4 @@
-use Rattle.std.proofs.Common.{ℕ, ◌+◌, ◌-◌, List, [], ◌∷◌, ◌++◌, length, take, drop, refl, sym, ◌∙◌, ap, subst, arith}
+use Rattle.std.proofs.Common.{ℕ, ◌+◌, ◌-◌, List, [], ◌∷◌, ◌++◌, length, take, drop, refl, sym, ◌∙◌, ap, subst, arith, length-append}
 use Rattle.cw_log.specs.declared.place.Frame.{Frame}
 use Rattle.cw_log.specs.declared.place.Place.{Place}
 use Rattle.cw_log.specs.Log.{IsFrame, EndsWithin, Begins, bodies_at, places_before}
@@ -13,8 +13,9 @@ frames-init g c = record {
   reads = reads_none g.D.Disk.holds g.D.Disk.may_leave g.D.Disk.moment g.D.Disk.left_since g.D.Disk.count g.D.Disk.reserved g.met.D.Disk.counts_now c.args.disk.now;
   window = λ file is. c.in_ok-window.ensures.window file;
   within = c.in_ok-window.ensures.within;
-  begins = λ file is. subst (λ (l : List ℕ). Begins 16 (places_before 16 l) file) (sym c.new-starts.ensures.items) (begins_start file (omega (arith, c.requires.size file is, c.requires.long)));
-  seen = λ file is none. subst (λ (l : List ℕ). g.V.BodyVisitor.has_seen c.expect.new.self (bodies_at (places_before 16 l) file)) (sym c.new-starts.ensures.items) (c.expect.ensures [] none);
+  begins = λ file is. subst (λ (l : List ℕ). Begins 16 (places_before 16 l) file) (sym c.new-starts.ensures) (begins_start file (omega (arith, c.requires.size file is, c.requires.long)));
+  seen = λ file is none. subst (λ (l : List ℕ). g.V.BodyVisitor.has_seen c.expect.new.self (bodies_at (places_before 16 l) file)) (sym c.new-starts.ensures) (c.expect.ensures [] none);
+  counted = ap length (sym c.new-starts.ensures);
   low = omega arith;
   high = c.requires.long;
 }
@@ -44,10 +45,11 @@ frames-preserved g c =
       within = c.show.ensures.within;
       seen = λ file is none.
           subst (λ (l : List (List ℕ)). g.V.BodyVisitor.has_seen c.show.new.visitor l)
-          (sym (ap (λ (l : List Place). bodies_at l file) (ap (places_before (c.frames.at + (5 + c.in-Open.length))) c.in_ok-push-in-Open.ensures.items ∙ places_before-push c.frames.at c.in-Open.length (c.frames.at + (5 + c.in-Open.length)) c.frames.starts.items (omega arith)) ∙ bodies_at-push places c.frames.at c.in-Open.length file))
+          (sym (ap (λ (l : List Place). bodies_at l file) (ap (places_before (c.frames.at + (5 + c.in-Open.length))) c.and-starts.ensures ∙ places_before-push c.frames.at c.in-Open.length (c.frames.at + (5 + c.in-Open.length)) c.frames.starts.items (omega arith)) ∙ bodies_at-push places c.frames.at c.in-Open.length file))
           (c.in_ok-show-in-Open.ensures.seen file (c.frame_at.ensures.reads.same ∙ c.frames.invariant.reads.same ∙ is) (bodies_at places file) (gate_behind c.frames.at places file (c.frames.invariant.begins file is)) (c.frames.invariant.seen file is none));
-      begins = λ file is. subst (λ (l : List Place). Begins (c.frames.at + (5 + c.in-Open.length)) l file) (sym (ap (places_before (c.frames.at + (5 + c.in-Open.length))) c.in_ok-push-in-Open.ensures.items ∙ places_before-push c.frames.at c.in-Open.length (c.frames.at + (5 + c.in-Open.length)) c.frames.starts.items (omega arith)))
+      begins = λ file is. subst (λ (l : List Place). Begins (c.frames.at + (5 + c.in-Open.length)) l file) (sym (ap (places_before (c.frames.at + (5 + c.in-Open.length))) c.and-starts.ensures ∙ places_before-push c.frames.at c.in-Open.length (c.frames.at + (5 + c.in-Open.length)) c.frames.starts.items (omega arith)))
           (begins_next c.frames.at c.in-Open.length (places_before c.frames.at c.frames.starts.items) file (c.frames.invariant.begins file is) (subst (λ (frame : Frame). IsFrame frame (drop c.frames.at file)) c.in-Open.is (c.in_ok-frame_at.ensures.frame file (c.frames.invariant.reads.same ∙ is))));
+      counted = omega (arith, c.frames.invariant.counted, ap length c.and-starts.ensures, length-append c.frames.starts.items (c.frames.at ∷ []));
       low = omega (arith, c.frames.invariant.low);
       high = omega (arith, ends, c.frames.invariant.high);
     }

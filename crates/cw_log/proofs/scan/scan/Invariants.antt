@@ -1,4 +1,4 @@
-use Rattle.std.proofs.Common.{◌≡◌, ◌≤◌, ◌-◌, List, [], ℕ, Some, length}
+use Rattle.std.proofs.Common.{◌≡◌, ◌≤◌, ◌+◌, ◌-◌, List, [], ℕ, Some, length}
 use Rattle.cw_log.specs.Calls.{Reads, IsWindow}
 use Rattle.cw_log.specs.Log.{Begins, bodies_at, places_before}
 use Rattle.cw_log.proofs.scan.scan.Given as goal
@@ -11,7 +11,8 @@ invariant-frames g l = record {
   within : l.window.filled ≤ length l.window.bytes.items;
   begins : (file : List ℕ) → g.D.Disk.holds l.fn.disk ≡ Some file → Begins l.at (places_before l.at l.starts.items) file;
   seen : (file : List ℕ) → g.D.Disk.holds l.fn.disk ≡ Some file → g.V.BodyVisitor.has_seen l.fn.visitor [] → g.V.BodyVisitor.has_seen l.visitor (bodies_at (places_before l.at l.starts.items) file);
-  low : 16 ≤ l.at;
+  counted : l.count ≡ length l.starts.items;
+  low : 16 + l.count ≤ l.at;
   high : l.at ≤ l.size;
 }
 

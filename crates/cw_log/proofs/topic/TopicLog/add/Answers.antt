@@ -4,7 +4,7 @@ use Rattle.cw_log.specs.declared.place.Place.{Place}
 use Rattle.cw_log.specs.Calls.{IsGated}
 use Rattle.cw_log.specs.Log.{field, IsBody, BeforeOrAfter, bodies_at, places_of}
 use Rattle.cw_log.specs.State.{IsKept, IsRest}
-use Rattle.cw_log.proofs.Gates.{told_before}
+use Rattle.cw_log.proofs.Gates.{told_before, told_too}
 use Rattle.cw_log.proofs.Opened.{gate_within}
 use Rattle.cw_log.proofs.Appended.{gated_stands, gated_front, rest_long, added_bodies, added_kept, added_end, same_bodies, same_kept}
 use Rattle.cw_log.proofs.topic.TopicLog.add.Goals as goal
@@ -29,6 +29,7 @@ invariant_of-self g c =
         end = added_end c.self.inside.kind c.self.inside.frames.gate (places_of c.self.inside.frames) c.args.body.now fits (g.D.Disk.holds c.self.inside.disk) (g.D.Disk.holds c.write_frame.new.disk) c.self.invariant.kept c.in-Ok.ensures.done file is;
         only = c.in-Ok.ensures.durable file is;
       });
+      known = λ file is. let before = told_too (g.D.Disk.holds c.self.inside.disk) (g.D.Disk.holds c.write_frame.new.disk) c.write_frame.ensures.told file is in c.push.ensures.known (c.self.invariant.known before.0 before.1);
       low = omega (arith, c.self.invariant.low, c.push.ensures.gate);
       high = omega (arith, fit, c.push.ensures.gate);
       room = λ some. absurd (omega arith);
@@ -44,6 +45,7 @@ invariant_of-self-in-Err g c =
     record {
       kept = same_kept c.self.inside.kind c.self.inside.frames.gate (places_of c.self.inside.frames) c.args.body.now fits (g.D.Disk.holds c.self.inside.disk) (g.D.Disk.holds c.write_frame.new.disk) c.self.invariant.kept c.write_frame.ensures.told front;
       rest = λ alive. absurd cc;
+      known = λ file is. let before = told_too (g.D.Disk.holds c.self.inside.disk) (g.D.Disk.holds c.write_frame.new.disk) c.write_frame.ensures.told file is in c.self.invariant.known before.0 before.1;
       low = c.self.invariant.low;
       high = c.self.invariant.high;
       room = λ some. absurd (omega arith);

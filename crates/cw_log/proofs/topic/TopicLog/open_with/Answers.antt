@@ -1,14 +1,16 @@
-use Rattle.std.proofs.Common.{ℕ, ap, subst, option_map, arith}
+use Rattle.std.proofs.Common.{ℕ, ap, sym, subst, option_map, arith}
 use Rattle.cw_log.specs.Log.{StandsFor, bodies_at, kind_of, places_of}
 use Rattle.cw_disk.specs.Disk.{Adds}
 use Rattle.cw_disk.proofs.Moments.{adds_left}
 use Rattle.cw_log.specs.Log.{StandAlike}
+use Rattle.cw_log.specs.State.{IsKnown}
 use Rattle.cw_log.proofs.topic.TopicLog.open_with.Goals as goal
 
 pub invariant_of-result : goal.invariant_of-result
 invariant_of-result g c = record {
   kept = λ file is. (c.in-Ok.ensures.kept file is).0;
   rest = λ alive file is. (c.in-Ok.ensures.kept file is).1;
+  known = λ file is. subst (λ known. IsKnown known c.in-Ok.frames.starts.items) (sym c.in-Ok.ensures.unknown) tt;
   low = c.in-Ok.ensures.gate.0;
   high = c.in-Ok.ensures.gate.1;
   room = λ some. absurd (omega arith);
