@@ -139,6 +139,14 @@ impl Replay {
         }
     }
 
+    /// The log has so many bytes, where that is found while its bodies are taken. From these it reckons how much room to make
+    /// at once. Nothing but speed and memory depends on it.
+    pub fn expect(&mut self, size: u64)
+        ensures { self.new ≡ self.old }
+    {
+        self.queue.walk.size = size;
+    }
+
     /// Takes the entries of one body more, whose frame has its gate at this place. NotEntries comes exactly where the
     /// body isn't the bytes of any entries, Memory for want of memory or where the entries would be more than 2^31.
     /// Behind an `Err` it has no entry.
