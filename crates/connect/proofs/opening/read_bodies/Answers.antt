@@ -38,3 +38,13 @@ loop-index-preserved g c = record {
 
 pub returns-clause-list : goal.returns-clause-list
 returns-clause-list g c bodies told = subst (λ (l : List (List ℕ)). HasRead l c.loop-index.reading) (take_all c.loop-index.index bodies (omega (arith, c.loop-index-test.false, c.count-index-end.ensures.list bodies told))) (c.loop-index.invariant.list bodies told)
+
+pub returns-in_err-read_body-clause-reads : goal.returns-in_err-read_body-clause-reads
+returns-in_err-read_body-clause-reads g c =
+    reads_then g.D.Disk.holds g.D.Disk.may_leave g.D.Disk.moment g.D.Disk.left_since g.D.Disk.count g.D.Disk.reserved g.met.D.Disk.counts_now c.args.log.now.disk c.loop-index.log.disk c.read_body.new.log.disk
+    c.loop-index.invariant.reads c.read_body.ensures.reads
+
+pub returns-in_err-take_body-clause-reads : goal.returns-in_err-take_body-clause-reads
+returns-in_err-take_body-clause-reads g c =
+    reads_then g.D.Disk.holds g.D.Disk.may_leave g.D.Disk.moment g.D.Disk.left_since g.D.Disk.count g.D.Disk.reserved g.met.D.Disk.counts_now c.args.log.now.disk c.loop-index.log.disk c.read_body.new.log.disk
+    c.loop-index.invariant.reads c.read_body.ensures.reads
