@@ -3,7 +3,7 @@ use Rattle.std.proofs.Common.{Bool, true, false, ◌≡◌, ◌≢◌, ◌<◌, 
 use Rattle.std.proofs.lemmas.Bool.Decides.{nat_tests}
 use Rattle.std.specs.Global.{Vec}
 use Rattle.cw_tables.specs.declared.hashing.Hashing.{Hashing}
-use Rattle.cw_tables.specs.Shelves.{times, times_on, count_on, numbers_of, place_of, ArePlaced}
+use Rattle.cw_tables.specs.Shelves.{times, times_in, times_on, count_in, count_on, numbers_of, place_of, ArePlaced}
 
 -- one number more
 pub times_more : (q : ℕ) (numbers : List ℕ) (number : ℕ) → times q (numbers ++ number ∷ []) ≡ times q numbers + cond (nat_eq number q) 1 0
@@ -99,9 +99,15 @@ clear_count shelves at new low none before =
     ap (λ (n : ℕ). count_on (take n (set shelves at new))) one ∙ omega (arith, count_on_next shelves at new low, before, empty)
 
 -- where there is no number, none is there
-times_none : (q : ℕ) (numbers : List ℕ) → length numbers ≡ 0 → times q numbers ≡ 0
+pub times_none : (q : ℕ) (numbers : List ℕ) → length numbers ≡ 0 → times q numbers ≡ 0
 times_none q [] none = omega arith
 times_none q (number ∷ numbers) none = absurd (omega (arith, none))
+
+-- the last number of a list
+pub times_last : (q : ℕ) (numbers : List ℕ) (last d : ℕ) → length numbers ≡ last + 1 → times q numbers ≡ times q (take last numbers) + cond (nat_eq (slice_index_or numbers last d) q) 1 0
+times_last q [] last d is = absurd (omega (arith, is))
+times_last q (number ∷ numbers) zero d is = omega (arith, times_none q numbers (omega (arith, is)))
+times_last q (number ∷ numbers) (suc last) d is = omega (arith, times_last q numbers last d (omega (arith, is)))
 
 pub none_on : (shelves : List (Vec ℕ)) → count_on shelves ≡ 0 → (q : ℕ) → times_on q shelves ≡ 0
 none_on [] none q = omega arith
@@ -213,3 +219,16 @@ at_most_one false = omega arith
 pub times_le : (q : ℕ) (numbers : List ℕ) → times q numbers ≤ length numbers
 times_le q [] = omega arith
 times_le q (number ∷ numbers) = omega (arith, times_le q numbers, at_most_one (nat_eq number q))
+
+-- nor on shelves
+times_on_le : (q : ℕ) (shelves : List (Vec ℕ)) → times_on q shelves ≤ count_on shelves
+times_on_le q [] = omega arith
+times_on_le q (first ∷ shelves) = omega (arith, times_le q first.items, times_on_le q shelves)
+
+-- nor in both
+pub times_in_le : (q : ℕ) (fresh : List ℕ) (shelves : List (Vec ℕ)) → times_in q fresh shelves ≤ count_in fresh shelves
+times_in_le q fresh shelves = omega (arith, times_le q fresh, times_on_le q shelves)
+
+-- where none is in either, no number is there
+pub none_in : (fresh : List ℕ) (shelves : List (Vec ℕ)) → count_in fresh shelves ≡ 0 → (q : ℕ) → times_in q fresh shelves ≡ 0
+none_in fresh shelves none q = omega (arith, none, times_in_le q fresh shelves)

@@ -27,8 +27,16 @@ numbers_of (shelf ∷ shelves) (suc at) = numbers_of shelves at
 
 -- which shelf a number has
 abbrev pub place_of : Hashing → ℕ → ℕ
-place_of hashing number = home_of hashing number 1024
+place_of hashing number = home_of hashing number 4096
 
 -- each number is on its own shelf
 abbrev pub ArePlaced : Hashing → List (Vec ℕ) → Type 0
 ArePlaced hashing shelves = (q at : ℕ) → place_of hashing q ≢ at → times q (numbers_of shelves at) ≡ 0
+
+-- how often a number is in a list and on shelves
+abbrev pub times_in : ℕ → List ℕ → List (Vec ℕ) → ℕ
+times_in number fresh shelves = times number fresh + times_on number shelves
+
+-- how many numbers are there
+abbrev pub count_in : List ℕ → List (Vec ℕ) → ℕ
+count_in fresh shelves = length fresh + count_on shelves

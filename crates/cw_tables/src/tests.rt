@@ -128,7 +128,8 @@ fn numbers_on_shelves_wait_until_they_are_cleared(rt: HostRuntime) -> Result<(),
     }
     assert_eq!(rt; shelves.len(), 2000);
     assert_eq!(rt; shelves.lists().len(), SHELVES);
-    let mut waiting: usize = 0;
+    let mut waiting = shelves.fresh().len();
+    assert!(rt; waiting > 0);
     for list in shelves.lists() {
         waiting = list.len().saturating_add(waiting);
     }
@@ -138,6 +139,7 @@ fn numbers_on_shelves_wait_until_they_are_cleared(rt: HostRuntime) -> Result<(),
     assert_eq!(rt; shelves.count(great(999)), 1);
     assert_eq!(rt; shelves.count(great(1000)), 0);
     assert!(rt; shelves.beside(great(0)).contains(&great(0)));
+    assert!(rt; shelves.fresh().contains(&great(999)));
     assert!(rt; shelves.beside(great(0)).len() < 100);
     shelves.clear();
     assert!(rt; shelves.is_empty());

@@ -4,7 +4,7 @@ ghost use Rattle.std.specs.HashMap.{get};
 ghost use Rattle.cw_types.specs.declared.ids.Tid.{Tid};
 ghost use Rattle.cw_types.specs.Same.{same_tid};
 
-use crate::late::{make_room, raise_shelves};
+use crate::late::{make_room, raise_shelf, raise_shelves};
 use cw_tables::hashed::{has_row, make_row, value_at};
 use cw_tables::{Forecast, Hashing, Numbered, Shelves};
 use cw_types::Tid;
@@ -71,7 +71,8 @@ impl Epochs {
         ensures { OnOk result ((tid : Tid) → epoch_at self.new tid ≡ epoch_at self.old tid + late_of late.now tid) }
     {
         make_room(&mut self.numbered, late, taken, left)?;
-        raise_shelves(&mut self.numbered, late.lists())
+        raise_shelves(&mut self.numbered, late.lists())?;
+        raise_shelf(&mut self.numbered, late.fresh())
     }
 
     /// A row for a producer. The table reads as before.

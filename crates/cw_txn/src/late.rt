@@ -58,8 +58,8 @@ pub fn raise_shelves(rows: &mut Numbered<u32>, shelves: &[Vec<u32>]) -> Result<(
     Ok(())
 }
 
-// Raises the epochs of the numbers on one shelf. Their rows are looked for first, one close behind the other.
-fn raise_shelf(rows: &mut Numbered<u32>, numbers: &[u32]) -> Result<(), AllocError>
+/// Raises the epochs of the numbers on one shelf. Their rows are looked for first, one close behind the other.
+pub fn raise_shelf(rows: &mut Numbered<u32>, numbers: &[u32]) -> Result<(), AllocError>
     requires { (q : ℕ) → unwrap_or (numbered_row rows.old q) 0 + times q numbers.now < 2 ^ 32 }
     ensures { OnOk result ((q : ℕ) → unwrap_or (numbered_row rows.new q) 0 ≡ unwrap_or (numbered_row rows.old q) 0 + times q numbers.now) }
 {

@@ -139,7 +139,8 @@ impl Replay {
         }
     }
 
-    /// The log has so many bytes, as for `new`.
+    /// The log has so many bytes, where that is found while its bodies are taken. From these it reckons how much room to make
+    /// at once. Nothing but speed and memory depends on it.
     pub fn expect(&mut self, size: u64)
         ensures { self.new ≡ self.old }
     {

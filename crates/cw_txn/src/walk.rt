@@ -21,7 +21,7 @@ use std::alloc::{AllocError, Global};
 const FEW_LATE: usize = 1 << 20;
 
 // So many bumps wait at most.
-const MOST_LATE: usize = 1 << 22;
+const MOST_LATE: usize = 1 << 23;
 
 // So many looks at the bumps that wait take no longer than one of them will.
 const LOOKS_A_BUMP: usize = 8;
