@@ -1,8 +1,8 @@
 -- The bodies of a transaction log shown one by one: their entries, and the gate of each one's frame.
-use Rattle.std.proofs.Common.{Option, Some, None, is_some, true, false, ◌≡◌, ◌≤◌, ◌<◌, inl, inr, ⊎_elim, ℕ, ◌+◌, ◌-◌, ◌^◌, List, [], ◌∷◌, ◌++◌, length, take, drop, map, replicate, get_or, slice_index_or, refl, sym, ◌∙◌, ap, subst, arith, append_assoc, length-append}
+use Rattle.std.proofs.Common.{Option, Some, None, is_some, true, false, ◌≡◌, ◌≤◌, ◌<◌, inr, ⊎_elim, ℕ, ◌+◌, ◌-◌, List, [], ◌∷◌, ◌++◌, length, map, replicate, get_or, slice_index_or, refl, sym, ◌∙◌, ap, subst, arith, append_assoc, length-append}
 use Rattle.std.specs.List.{flat_map, AllByRecursion}
 use Rattle.std.proofs.lemmas.Bool.{cases_lt}
-use Rattle.std.proofs.lemmas.List.{append-nil, map-append, take_more, get_or_default, length-replicate, get_or-replicate, get_or-append_right, get_or_append_left, take-append-drop}
+use Rattle.std.proofs.lemmas.List.{append-nil, map-append, length-replicate, get_or-replicate, get_or-append_right, get_or_append_left}
 use Rattle.std.proofs.lemmas.List.Concat.{flat_map-append, flat_map-cons}
 use Rattle.std.proofs.lemmas.List.Elements.{All-push, All-from_recursion, recursion_from_All}
 use Rattle.cw_log.specs.declared.fault.Harm.{Harm}
@@ -10,7 +10,6 @@ use Rattle.cw_log.specs.declared.fault.Harm.TheVariants.{Magic, Version, Kind, H
 use Rattle.cw_log.specs.Log.{length_of}
 use Rattle.cw_txn.specs.declared.entry.Entry.{Entry}
 use Rattle.cw_txn.specs.Body.{AreEntries, entries_bytes}
-use Rattle.cw_types.proofs.Lists.{cut_at}
 use Rattle.cw_txn.specs.Replayed.{Replayed, TakesBody}
 use Rattle.connect.specs.Store.{Hold}
 use Rattle.connect.specs.Harms.{gate_behind, IsReadable, HasUnreadable, IsGateOf, HasBodyHarm}

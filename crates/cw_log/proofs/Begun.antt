@@ -1,14 +1,13 @@
 -- A walk over the frames of a file that begins with known ones.
-use Rattle.std.proofs.Common.{◌≡◌, ◌≤◌, ◌<◌, inl, inr, ⊎_elim, ℕ, zero, suc, ◌+◌, ◌-◌, ◌^◌, List, [], ◌∷◌, ◌++◌, length, take, drop, get_or, refl, sym, ◌∙◌, ap, subst, arith, append_assoc, length-append, length-take}
+use Rattle.std.proofs.Common.{◌≡◌, ◌≤◌, ◌<◌, inl, inr, ℕ, zero, suc, ◌+◌, ◌-◌, ◌^◌, List, [], ◌∷◌, ◌++◌, length, take, drop, get_or, refl, sym, ◌∙◌, ap, subst, arith, append_assoc, length-append}
 use Rattle.std.proofs.lemmas.List.{take_more, take_all, drop_at, drop-drop}
 use Rattle.std.proofs.lemmas.Nat.{from_be_bytes-to_be_bytes_4}
-use Rattle.std.specs.Int.{w32, to_be_bytes, from_be_bytes}
+use Rattle.std.specs.Int.{w32, to_be_bytes}
 use Rattle.cw_log.specs.declared.place.Place.{Place}
 use Rattle.cw_log.specs.declared.place.Frame.{Frame}
 use Rattle.cw_log.specs.declared.place.Frame.TheVariants.{Closed, Broken, Open}
 use Rattle.cw_log.specs.Log.{field, AreFrames, Begins, IsBroken, IsFrame, length_in, places_before, places_from}
 use Rattle.cw_log.proofs.Frames.{length-field}
-use Rattle.cw_log.proofs.Opened.{bodies_are}
 
 -- a whole frame begins at one of the begins, and ends where the next one is
 pub record Stands (gate : ℕ) (starts file : List ℕ) (k : ℕ) : Type 0 where

@@ -1,7 +1,6 @@
 use Rattle.std.proofs.Common.{◌≡◌, ◌∙◌, inl, inr, List, ℕ, Some, sym, ap, subst, arith}
-use Rattle.cw_disk.specs.Disk.{Adds}
 use Rattle.cw_types.specs.Faults.{Rose}
-use Rattle.cw_log.specs.Log.{StandsFor, StandAlike, IsDamaged}
+use Rattle.cw_log.specs.Log.{StandsFor, IsDamaged}
 use Rattle.connect.specs.Store.{Kept, IsImage, store_of}
 use Rattle.connect.specs.Harms.{HasBodyHarm, HoldsAlike, IsHarmed}
 use Rattle.connect.specs.Reading.{HasSeen}

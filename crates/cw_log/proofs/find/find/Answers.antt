@@ -1,4 +1,4 @@
-use Rattle.std.proofs.Common.{◌≡◌, ◌∙◌, ℕ, List, Option, Some, None, is_some, true, length, Vec, sym, ap}
+use Rattle.std.proofs.Common.{◌≡◌, ◌∙◌, ℕ, List, Option, Some, None, is_some, true, Vec, sym}
 use Rattle.std.specs.declared.alloc.Global.{Global}
 use Rattle.cw_log.specs.State.{IsFound, IsKnown}
 use Rattle.cw_log.proofs.find.find.Goals as goal

@@ -1,5 +1,5 @@
-use Rattle.std.proofs.Common.{◌≡◌, ◌+◌, ◌∙◌, ℕ, List, [], get_or, take, drop, ◌≤◌, length, sym, ap, subst, arith}
-use Rattle.cw_log.specs.Log.{bodies_at, places_before, places_of}
+use Rattle.std.proofs.Common.{◌≡◌, ◌+◌, ◌∙◌, ℕ, get_or, take, drop, sym, ap, arith}
+use Rattle.cw_log.specs.Log.{places_before, places_of}
 use Rattle.cw_log.proofs.Opened.{gate_within}
 use Rattle.cw_log.proofs.Appended.{body_at}
 use Rattle.cw_log.proofs.Starts.{length-places_before}

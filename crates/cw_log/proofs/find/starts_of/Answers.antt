@@ -1,5 +1,4 @@
-use Rattle.std.proofs.Common.{◌≡◌, ◌<◌, ℕ, List, length, sym, ◌∙◌, ap, arith}
-use Rattle.cw_log.specs.declared.place.Frame.{Frame}
+use Rattle.std.proofs.Common.{sym, ◌∙◌, arith}
 use Rattle.cw_log.proofs.Gates.{reads_then}
 use Rattle.cw_log.proofs.Begun.{begun_none, begun_more, begun_all, begun_open}
 use Rattle.cw_log.proofs.find.starts_of.Goals as goal

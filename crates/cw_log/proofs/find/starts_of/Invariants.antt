@@ -1,4 +1,4 @@
-use Rattle.std.proofs.Common.{◌≡◌, ◌≤◌, ◌-◌, List, ℕ, Some, length, take, get_or, vec_len}
+use Rattle.std.proofs.Common.{◌≡◌, ◌≤◌, ◌-◌, List, ℕ, Some, length, vec_len}
 use Rattle.cw_log.specs.Calls.{Reads, IsWindow}
 use Rattle.cw_log.specs.Log.{Begins, places_before}
 use Rattle.cw_log.proofs.Begun.{Begun}

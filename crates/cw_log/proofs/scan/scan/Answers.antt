@@ -1,4 +1,4 @@
-use Rattle.std.proofs.Common.{ℕ, ◌+◌, ◌-◌, List, [], ◌∷◌, ◌++◌, length, take, drop, refl, sym, ◌∙◌, ap, subst, arith, length-append}
+use Rattle.std.proofs.Common.{ℕ, ◌+◌, ◌-◌, List, [], ◌∷◌, length, drop, refl, sym, ◌∙◌, ap, subst, arith, length-append}
 use Rattle.cw_log.specs.declared.place.Frame.{Frame}
 use Rattle.cw_log.specs.declared.place.Place.{Place}
 use Rattle.cw_log.specs.Log.{IsFrame, EndsWithin, Begins, bodies_at, places_before}

@@ -1,4 +1,4 @@
-use Rattle.std.proofs.Common.{◌≡◌, ◌+◌, ◌∙◌, ℕ, List, [], get_or, ◌≤◌, sym, ap, subst, arith}
+use Rattle.std.proofs.Common.{◌∙◌, ℕ, List, [], get_or, ap, arith}
 use Rattle.cw_log.specs.Log.{bodies_at, places_of}
 use Rattle.cw_log.proofs.Gates.{told_before}
 use Rattle.cw_log.proofs.Appended.{log_read, room_read}
