@@ -6,3 +6,6 @@ pub mod Decimal
 pub mod Faults
 pub mod Same
 pub mod Verdict
+pub mod Task
+pub mod Answers
+pub mod Pieces

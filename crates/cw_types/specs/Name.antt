@@ -15,6 +15,15 @@ name_fault bytes =
     if nat_lt 128 (length bytes) then Some TooLong else
     option_map BadByte (position (λ b. not (is_name_byte b)) bytes)
 
+-- the bytes, where they have no fault
+abbrev pub unless_fault : List ℕ → Option NameFault → Option (List ℕ)
+unless_fault bytes None = Some bytes
+unless_fault bytes (Some fault) = None
+
+-- the name that bytes are
+abbrev pub name_of : List ℕ → Option (List ℕ)
+name_of bytes = unless_fault bytes (name_fault bytes)
+
 -- the bytes of a name
 abbrev pub IsName : List ℕ → Type 0
 IsName bytes = name_fault bytes ≡ None

@@ -65,28 +65,3 @@ pub fn numbers_are_decimals()
     ensures again { (most n : ℕ) → n < 2 ^ 64 → n ≤ most → number_of most (decimal n) ≡ Some n }
     ensures only { (most n : ℕ) (text : List ℕ) → most < 2 ^ 64 → number_of most text ≡ Some n → (text ≡ decimal n) × (n ≤ most) }
 {}
-
-#[cfg(test)]
-mod tests {
-    use super::*;
-
-    #[test]
-    fn decimal_text_has_no_sign_and_no_leading_zero(rt: HostRuntime) {
-        let table: [(&[u8], Option<u64>, Option<u32>); 10] = [
-            (b"0", Some(0), Some(0)),
-            (b"4294967295", Some(4294967295), Some(4294967295)),
-            (b"4294967296", Some(4294967296), None),
-            (b"18446744073709551615", Some(u64::MAX), None),
-            (b"18446744073709551616", None, None),
-            (b"", None, None),
-            (b"00", None, None),
-            (b"+1", None, None),
-            (b"-1", None, None),
-            (b"1 ", None, None),
-        ];
-        for (text, wide, narrow) in table {
-            assert_eq!(rt; read_u64(text), wide);
-            assert_eq!(rt; read_u32(text), narrow);
-        }
-    }
-}

@@ -1,8 +1,12 @@
 //! Ids of producers, items of a worker, and parts of sources and sinks.
-ghost use Rattle.std.specs.Prelude.{◌≡◌, IfOk};
+ghost use Rattle.std.specs.Prelude.{◌≡◌, ◌^◌, ◌-◌, IfOk};
+ghost use Rattle.cw_types.specs.Decimal.{number_of};
+ghost use Rattle.cw_types.specs.Name.{name_of};
 ghost use Rattle.cw_types.specs.Order.{item_cmp};
+ghost use Rattle.cw_types.specs.Task.{task_of_parts};
 ghost use Rattle.cw_types.specs.Text.{tid_text};
 
+use crate::decimal::read_u32;
 use crate::name::Name;
 use std::alloc::{AllocError, Global};
 use std::cmp::Ordering;
@@ -17,6 +21,24 @@ pub struct TaskId {
 }
 
 impl TaskId {
+    /// The task whose connector and number bytes are, or none where they are no name or no decimal number below
+    /// 2^32. Want of memory alone is an error.
+    pub fn from_bytes(
+        alloc: Global,
+        connector: &[u8],
+        index: &[u8],
+    ) -> Result<Option<TaskId>, AllocError>
+        ensures { IfOk result (λ id. id ≡ task_of_parts (name_of connector.now) (number_of (2 ^ 32 - 1) index.now)) }
+    {
+        let Some(connector) = Name::from_bytes(alloc, connector)? else {
+            return Ok(None);
+        };
+        match read_u32(index) {
+            Some(index) => Ok(Some(TaskId { connector, index })),
+            None => Ok(None),
+        }
+    }
+
     /// A copy.
     pub fn copy(&self) -> Result<Self, AllocError>
         ensures { IfOk result (λ id. id ≡ self.now) }
@@ -213,51 +235,42 @@ pub fn tid_text(alloc: Global, group: &Name, tid: &Tid) -> Result<Vec<u8>, Alloc
 #[cfg(test)]
 mod tests {
     use super::*;
-    use crate::listed::Listed;
     use std::test::Fail;
 
     #[test]
-    fn ids_are_copied_ordered_and_written(rt: HostRuntime) -> Result<(), Fail> {
-        let group = Name::read(rt.alloc(), b"g")?;
-        let id = TaskId {
-            connector: Name::read(rt.alloc(), b"a-1")?,
-            index: 0,
-        };
-        let task = Tid::Task(id.copy()?);
-        assert_eq!(rt;
-            tid_text(rt.alloc(), &group, &task)?.as_slice(),
-            b"g-a-1-0".as_slice()
-        );
-        assert_eq!(rt;
-            tid_text(rt.alloc(), &group, &Tid::Lead)?.as_slice(),
-            b"connect-cluster-g".as_slice()
-        );
-        assert_eq!(rt;
-            tid_text(rt.alloc(), &group, &Tid::Raw(7))?.as_slice(),
-            b"raw-7".as_slice()
-        );
-        let connector = Item::Connector(Name::read(rt.alloc(), b"b")?);
-        let item = Item::Task(id);
-        assert!(rt; order_of_items(&connector, &item) == Ordering::Less);
-        assert!(rt; order_of_items(&item.copy()?, &item) == Ordering::Equal);
+    fn ids_are_read_and_copied(rt: HostRuntime) -> Result<(), Fail> {
+        let id = TaskId::from_bytes(rt.alloc(), b"a-1", b"0")?.ok_or("a task")?;
+        let item = Item::Task(id.copy()?);
+        assert!(rt; item.copy()? == item);
         let tag = Tag {
-            tid: task,
+            tid: Tid::Task(id),
             epoch: Epoch(3),
             number: 4,
         };
         assert!(rt; tag.copy()? == tag);
+        Ok(())
+    }
+
+    #[test]
+    fn spans_are_copied(rt: HostRuntime) -> Result<(), Fail> {
         let span = Span {
             part: PartKey::Seq {
-                connector: group,
+                connector: Name::read(rt.alloc(), b"a")?,
                 index: 9,
             },
             from: 1,
             to: 2,
         };
         assert!(rt; span.copy()? == span);
-        let numbers = Listed::new(vec![in rt.alloc(); 7u8, 8]?);
-        assert_eq!(rt; numbers.as_slice(), [7, 8].as_slice());
-        assert_eq!(rt; numbers.into_vec().as_slice(), [7, 8].as_slice());
+        Ok(())
+    }
+
+    #[test]
+    fn ids_have_texts(rt: HostRuntime) -> Result<(), Fail> {
+        let group = Name::read(rt.alloc(), b"g")?;
+        let id = TaskId::from_bytes(rt.alloc(), b"a-1", b"0")?.ok_or("a task")?;
+        let text = tid_text(rt.alloc(), &group, &Tid::Task(id))?;
+        assert_eq!(rt; text.as_slice(), b"g-a-1-0".as_slice());
         Ok(())
     }
 }

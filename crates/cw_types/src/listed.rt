@@ -1,6 +1,7 @@
 //! A `Vec` that clauses see as its list.
-ghost use Rattle.std.specs.Prelude.{◌≡◌};
+ghost use Rattle.std.specs.Prelude.{◌≡◌, IfOk};
 
+use std::alloc::AllocError;
 use std::marker::Model;
 
 /// A `Vec` that clauses see as the list of its elements, for the fields of public types.
@@ -37,5 +38,16 @@ impl<T> Listed<T> {
         ensures { result.items ≡ self }
     {
         self.items
+    }
+}
+
+impl<T: Copy> Listed<T> {
+    /// A copy.
+    pub fn copy(&self) -> Result<Self, AllocError>
+        ensures { IfOk result (λ copy. copy ≡ self.now) }
+    {
+        let mut items = Vec::new(*self.items.allocator());
+        items.extend_from_slice(self.as_slice())?;
+        Ok(Listed { items })
     }
 }

