@@ -1,5 +1,6 @@
--- Reading fields from left to right: the value and what is left, or the first fault with the place where its field begins.
-use Rattle.std.specs.Prelude.{◌≡◌, ℕ, zero, suc, ◌+◌, List, [], ◌∷◌, length, take, Option, Some, None, Result, Ok, Err, Bool, true, false, nat_lt, ◌==◌, if◌then◌else◌}
+-- Reading fields from left to right: the value and what is left, or the first fault with the place where its field
+-- begins.
+use Rattle.std.specs.Prelude.{◌≡◌, ℕ, zero, suc, ◌+◌, List, [], ◌∷◌, ◌++◌, length, take, Option, Some, None, Result, Ok, Err, Bool, true, false, nat_lt, ◌==◌, if◌then◌else◌}
 use Rattle.std.specs.Bool.{⊤}
 use Rattle.std.specs.Int.{Width, w32, w64, byte_len, from_be_bytes}
 use Rattle.cw_types.specs.Name.{name_fault}
@@ -14,7 +15,7 @@ use Rattle.cw_bytes.specs.declared.applied.Applied.{Applied}
 use Rattle.cw_bytes.specs.declared.mark.Mark.{Mark}
 use Rattle.cw_bytes.specs.declared.fault.FieldFault.{FieldFault}
 use Rattle.cw_bytes.specs.declared.fault.FieldFault.TheVariants.{Short, BadKind, BadName, Memory}
-use Rattle.cw_bytes.specs.Unread.{Unread, past}
+use Rattle.cw_bytes.specs.Unread.{Unread, past, Takes}
 
 -- what reading gives: a value and what is left, or a fault
 abbrev pub Read : Type 0 → Type 0
@@ -46,7 +47,9 @@ byte_at from = first_of from.place from.rest
 
 -- a number of a width
 abbrev pub number_at : Width → Unread → Read ℕ
-number_at w from = if nat_lt (length from.rest) (byte_len w) then Err (Short from.place) else Ok (from_be_bytes w (take (byte_len w) from.rest), past (byte_len w) from)
+number_at w from =
+    if nat_lt (length from.rest) (byte_len w) then Err (Short from.place) else
+    Ok (from_be_bytes w (take (byte_len w) from.rest), past (byte_len w) from)
 
 -- n bytes of a text that begins at a place
 abbrev pub cut_at : ℕ → ℕ → Unread → Read (List ℕ)
@@ -81,7 +84,8 @@ raw_id_at from = do
 unfoldable pub tid_at : Unread → Read Tid
 tid_at from = do
   kind ← byte_at from
-  if kind.0 == 1 then Ok (Lead, kind.1) else if kind.0 == 2 then task_at kind.1 else if kind.0 == 3 then raw_id_at kind.1 else Err (BadKind kind.0)
+  if kind.0 == 1 then Ok (Lead, kind.1) else if kind.0 == 2 then task_at kind.1 else
+      if kind.0 == 3 then raw_id_at kind.1 else Err (BadKind kind.0)
 
 unfoldable pub tag_at : Unread → Read Tag
 tag_at from = do
@@ -128,7 +132,8 @@ sink_at from = do
 unfoldable pub part_at : Unread → Read PartKey
 part_at from = do
   kind ← byte_at from
-  if kind.0 == 1 then raw_part_at kind.1 else if kind.0 == 2 then file_at kind.1 else if kind.0 == 3 then seq_at kind.1 else if kind.0 == 4 then sink_at kind.1 else Err (BadKind kind.0)
+  if kind.0 == 1 then raw_part_at kind.1 else if kind.0 == 2 then file_at kind.1 else
+      if kind.0 == 3 then seq_at kind.1 else if kind.0 == 4 then sink_at kind.1 else Err (BadKind kind.0)
 
 unfoldable pub span_at : Unread → Read Span
 span_at from = do
@@ -136,6 +141,10 @@ span_at from = do
   start ← number_at w64 part.1
   stop ← number_at w64 start.1
   Ok (record { part = part.0; from = start.0; to = stop.0 }, stop.1)
+
+-- a span is read, and put behind others
+abbrev pub PutsSpan : Unread → Unread → List Span → List Span → Type 0
+PutsSpan from next old new = (span : Span) × (span_at from ≡ Ok (span, next)) × (new ≡ old ++ span ∷ [])
 
 unfoldable pub some_text_at : Unread → Read (Option (List ℕ))
 some_text_at from = do
@@ -168,6 +177,11 @@ unfoldable pub records_at : Unread → Read (List Applied)
 records_at from = do
   n ← number_at w32 from
   if n.0 == 0 then Err (BadKind 0) else many_at record_at n.0 n.1
+
+-- what fits a field and is spelled as it is read as it, whatever follows
+abbrev pub ReadsSpelled : {A : Type 0} → (A → Type 0) → (A → List ℕ) → (Unread → Read A) → Type 0
+ReadsSpelled {A} Fits spelled at =
+    (x : A) (from next : Unread) → Fits x → Takes (spelled x) from next → at from ≡ Ok (x, next)
 
 -- a body is a value and nothing behind it
 abbrev pub ended : {A : Type 0} → Read A → Option A

@@ -1,4 +1,5 @@
--- The bytes of fields in the bodies of the logs. Numbers are big-endian, as in Kafka's protocol; kinds and order are this project's own.
+-- The bytes of fields in the bodies of the logs. Numbers are big-endian, as in Kafka's protocol; kinds and order are
+-- this project's own.
 use Rattle.std.specs.Prelude.{ℕ, ◌<◌, ◌≤◌, ◌^◌, List, [], ◌∷◌, ◌++◌, length, Option, Some, None, Bool, true, false}
 use Rattle.std.specs.Bool.{⊤}
 use Rattle.std.specs.List.{flat_map, AllByRecursion}

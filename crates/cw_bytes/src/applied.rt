@@ -1,5 +1,8 @@
 //! A record of a log.
+ghost use Rattle.std.specs.Prelude.{◌≡◌, IfOk};
+
 use cw_types::Listed;
+use std::alloc::AllocError;
 
 /// One record of a list of records, as it stands in a log (Kafka's record with its offset and timestamp).
 #[derive(Debug, Drop)]
@@ -12,4 +15,27 @@ pub struct Applied {
     pub key: Listed<u8>,
     /// Its value; none is a tombstone.
     pub value: Option<Listed<u8>>,
+}
+
+impl Applied {
+    /// A copy.
+    pub fn copy(&self) -> Result<Self, AllocError>
+        ensures { IfOk result (λ applied. applied ≡ self.now) }
+    {
+        Ok(Applied {
+            offset: self.offset,
+            stamp: self.stamp,
+            key: self.key.copy()?,
+            value: copy_of_value(&self.value)?,
+        })
+    }
+}
+
+fn copy_of_value(value: &Option<Listed<u8>>) -> Result<Option<Listed<u8>>, AllocError>
+    ensures { IfOk result (λ copy. copy ≡ value.now) }
+{
+    match value {
+        Some(value) => Ok(Some(value.copy()?)),
+        None => Ok(None),
+    }
 }

@@ -11,19 +11,23 @@ use crate::reader::{Reader, read_records};
 use crate::writer::Writer;
 use crate::writing::write_records;
 use std::alloc::{AllocError, Global};
+use thiserror::Error;
 
 /// Why a body of a log can't be read.
-#[derive(Clone, Copy, Debug, PartialEq, Eq, Drop)]
+#[derive(Clone, Copy, Debug, PartialEq, Eq, Drop, Error)]
 pub enum BodyFault {
     /// It isn't the bytes of any value of its log.
+    #[error("no body of this log")]
     NotBody,
     /// Want of memory.
+    #[error("out of memory")]
     Memory,
 }
 
 // The records of a body.
 fn read_body(alloc: Global, body: &[u8]) -> Result<Vec<Applied>, BodyFault>
-    ensures { MatchResult result (λ records. body_at records_at body.now ≡ Some records.items) (λ fault. fault ≢ BodyFault.Memory → body_at records_at body.now ≡ None) }
+    ensures { MatchResult result (λ records. body_at records_at body.now ≡ Some records.items)
+        (λ fault. fault ≢ BodyFault.Memory → body_at records_at body.now ≡ None) }
 {
     let mut from = Reader::new(body);
     match read_records(alloc, &mut from) {
@@ -46,8 +50,10 @@ pub fn read_record_body(alloc: Global, body: &[u8]) -> Result<Vec<Applied>, Body
     // What is read is spelled so, to the last byte.
     ensures found { IfOk result (λ records. AreRecords records.items × (body.now ≡ records_bytes records.items)) }
     // What is spelled so is read.
-    ensures only { (records : List Applied) → AreRecords records → body.now ≡ records_bytes records → IfOk result (λ read. read.items ≡ records) }
-    ensures refused { (records : List Applied) → AreRecords records → body.now ≡ records_bytes records → result ≢ Err BodyFault.NotBody }
+    ensures only { (records : List Applied) → AreRecords records → body.now ≡ records_bytes records →
+        IfOk result (λ read. read.items ≡ records) }
+    ensures refused { (records : List Applied) → AreRecords records → body.now ≡ records_bytes records →
+        result ≢ Err BodyFault.NotBody }
 {
     read_body(alloc, body)
 }

@@ -1,15 +1,14 @@
 //! Reading one field behind the other.
-ghost use Rattle.std.specs.Prelude.{◌≡◌, ◌++◌, ◌∷◌, [], Ok, IfOk, IfErr, OnErr};
-ghost use Rattle.cw_types.specs.declared.ids.Span.{Span};
+ghost use Rattle.std.specs.Prelude.{◌≡◌, IfOk, IfErr, OnErr};
 ghost use Rattle.cw_bytes.specs.Input.{unread};
-ghost use Rattle.cw_bytes.specs.Reading.{Fails, Gives, cut_at, text_at, name_at, task_at, raw_id_at, tid_at, tag_at, flag_at, mark_at, raw_part_at, file_at, seq_at, sink_at, part_at, span_at, some_text_at, value_at, record_at, many_at, records_at};
+ghost use Rattle.cw_bytes.specs.Reading.{Fails, Gives, PutsSpan, cut_at, text_at, name_at, task_at, raw_id_at, tid_at, tag_at, flag_at, mark_at, raw_part_at, file_at, seq_at, sink_at, part_at, span_at, some_text_at, value_at, record_at, many_at, records_at};
 
 use crate::applied::Applied;
 use crate::fault::FieldFault;
 use crate::input::Input;
 use crate::mark::Mark;
 use crate::numbers::{past, u8_of, u32_of, u64_of};
-use cw_types::{Epoch, Listed, Name, NameFault, PartKey, Span, Tag, TaskId, Tid};
+use cw_types::{Epoch, Listed, Name, PartKey, Span, Tag, TaskId, Tid};
 use std::alloc::Global;
 
 #[inline]
@@ -38,12 +37,9 @@ fn name_of(alloc: Global, from: Input<'_>) -> Result<(Name, Input<'_>), FieldFau
     ensures { Gives (λ x. (x.0, unread x.1)) result (name_at (unread from.entry)) }
 {
     let (text, rest) = text_of(from)?;
-    match Name::read(alloc, text) {
-        Ok(name) => Ok((name, rest)),
-        Err(NameFault::Empty) => Err(FieldFault::BadName(from.place)),
-        Err(NameFault::TooLong) => Err(FieldFault::BadName(from.place)),
-        Err(NameFault::BadByte(_)) => Err(FieldFault::BadName(from.place)),
-        Err(NameFault::Memory) => Err(FieldFault::Memory),
+    match Name::from_bytes(alloc, text)? {
+        Some(name) => Ok((name, rest)),
+        None => Err(FieldFault::BadName(from.place)),
     }
 }
 
@@ -189,14 +185,14 @@ pub fn span_of(alloc: Global, from: Input<'_>) -> Result<(Span, Input<'_>), Fiel
 }
 
 /// A span more behind others. One of a script's part, whose bytes are numbers, is made where it stays.
-#[tactic(auto, unfolding(crate::specs::Reading::span_at, crate::specs::Reading::part_at, crate::specs::Reading::raw_part_at))]
+#[tactic(auto, unfolding(crate::specs::Reading::span_at, crate::specs::Reading::part_at, crate::specs::Reading::raw_part_at,))]
 #[inline(always)]
 pub fn span_onto<'a>(
     alloc: Global,
     from: Input<'a>,
     spans: &mut Vec<Span>,
 ) -> Result<Input<'a>, FieldFault>
-    ensures put { IfOk result (λ rest. (span : Span) × (span_at (unread from.entry) ≡ Ok (span, unread rest)) × (spans.new.items ≡ spans.old.items ++ span ∷ [])) }
+    ensures put { IfOk result (λ rest. PutsSpan (unread from.entry) (unread rest) spans.old.items spans.new.items) }
     ensures same { OnErr result (spans.new.items ≡ spans.old.items) }
     ensures fault { IfErr result (λ fault. Fails fault (span_at (unread from.entry))) }
 {

@@ -1,15 +1,9 @@
 //! The reader.
-ghost use Rattle.std.specs.Prelude.{◌≡◌, ◌==◌, ◌<◌, ◌^◌, ℕ, List, [], ◌∷◌, ◌++◌, length, Ok, IfOk, IfErr, OnOk, OnErr};
-ghost use Rattle.cw_types.specs.declared.ids.Tid.{Tid};
-ghost use Rattle.cw_types.specs.declared.ids.Tag.{Tag};
-ghost use Rattle.cw_types.specs.declared.ids.PartKey.{PartKey};
-ghost use Rattle.cw_types.specs.declared.ids.Span.{Span};
-ghost use Rattle.cw_bytes.specs.declared.applied.Applied.{Applied};
-ghost use Rattle.cw_bytes.specs.declared.mark.Mark.{Mark};
+ghost use Rattle.std.specs.Prelude.{◌≡◌, ◌==◌, ◌<◌, ◌^◌, ℕ, [], ◌∷◌, length, Ok, IfOk, IfErr, OnOk, OnErr};
 ghost use Rattle.std.specs.Int.{w32, w64};
 ghost use Rattle.cw_bytes.specs.Unread.{Unread, Takes, AreBytes};
 ghost use Rattle.cw_bytes.specs.Spelling.{word, long, text, tid_bytes, tag_bytes, mark_bytes, part_bytes, span_bytes, records_bytes, IsText, IsTid, IsTag, IsMark, IsPart, IsSpan, AreRecords};
-ghost use Rattle.cw_bytes.specs.Reading.{Fails, Gives, byte_at, number_at, text_at, tid_at, tag_at, mark_at, part_at, span_at, records_at};
+ghost use Rattle.cw_bytes.specs.Reading.{Fails, Gives, PutsSpan, ReadsSpelled, byte_at, number_at, text_at, tid_at, tag_at, mark_at, part_at, span_at, records_at};
 
 use crate::applied::Applied;
 use crate::fault::FieldFault;
@@ -181,7 +175,7 @@ pub fn read_span_onto(
     from: &mut Reader<'_>,
     spans: &mut Vec<Span>,
 ) -> Result<(), FieldFault>
-    ensures put { OnOk result ((span : Span) × (span_at from.old ≡ Ok (span, from.new)) × (spans.new.items ≡ spans.old.items ++ span ∷ [])) }
+    ensures put { OnOk result (PutsSpan from.old from.new spans.old.items spans.new.items) }
     ensures as_before { OnErr result ((from.new ≡ from.old) × (spans.new.items ≡ spans.old.items)) }
     ensures fault { IfErr result (λ fault. Fails fault (span_at from.old)) }
 {
@@ -193,7 +187,8 @@ pub fn read_span_onto(
 pub fn read_records(alloc: Global, from: &mut Reader<'_>) -> Result<Vec<Applied>, FieldFault>
     ensures value { Gives (λ records. (records.items, from.new)) result (records_at from.old) }
     ensures as_before { OnErr result (from.new ≡ from.old) }
-    ensures spelled { IfOk result (λ records. Takes (records_bytes records.items) from.old from.new × AreRecords records.items) }
+    ensures spelled { IfOk result (λ records.
+        Takes (records_bytes records.items) from.old from.new × AreRecords records.items) }
 {
     let (records, rest) = records_of(alloc, from.input)?;
     from.input = rest;
@@ -203,14 +198,13 @@ pub fn read_records(alloc: Global, from: &mut Reader<'_>) -> Result<Vec<Applied>
 /// The law of fields: what is spelled as a field is read as it, whatever follows.
 pub fn spelled_fields_are_read()
     ensures byte { (b : ℕ) (from next : Unread) → Takes (b ∷ []) from next → byte_at from ≡ Ok (b, next) }
-    ensures word { (n : ℕ) (from next : Unread) → n < 2 ^ 32 → Takes (word n) from next → number_at w32 from ≡ Ok (n, next) }
-    ensures long { (n : ℕ) (from next : Unread) → n < 2 ^ 64 → Takes (long n) from next → number_at w64 from ≡ Ok (n, next) }
-    ensures text { (t : List ℕ) (from next : Unread) → IsText t → Takes (text t) from next → text_at from ≡ Ok (t, next) }
-    ensures tid { (tid : Tid) (from next : Unread) → IsTid tid → Takes (tid_bytes tid) from next → tid_at from ≡ Ok (tid, next) }
-    ensures tag { (tag : Tag) (from next : Unread) → IsTag tag → Takes (tag_bytes tag) from next → tag_at from ≡ Ok (tag, next) }
-    ensures mark { (mark : Mark) (from next : Unread) → IsMark mark → Takes (mark_bytes mark) from next → mark_at from ≡ Ok (mark, next) }
-    ensures part { (part : PartKey) (from next : Unread) → IsPart part → Takes (part_bytes part) from next → part_at from ≡ Ok (part, next) }
-    ensures span { (span : Span) (from next : Unread) → IsSpan span → Takes (span_bytes span) from next → span_at from ≡ Ok (span, next) }
-    ensures records { (records : List Applied) (from next : Unread) → AreRecords records → Takes (records_bytes records) from next →
-        records_at from ≡ Ok (records, next) }
+    ensures word { ReadsSpelled (λ n. n < 2 ^ 32) word (number_at w32) }
+    ensures long { ReadsSpelled (λ n. n < 2 ^ 64) long (number_at w64) }
+    ensures text { ReadsSpelled IsText text text_at }
+    ensures tid { ReadsSpelled IsTid tid_bytes tid_at }
+    ensures tag { ReadsSpelled IsTag tag_bytes tag_at }
+    ensures mark { ReadsSpelled IsMark mark_bytes mark_at }
+    ensures part { ReadsSpelled IsPart part_bytes part_at }
+    ensures span { ReadsSpelled IsSpan span_bytes span_at }
+    ensures records { ReadsSpelled AreRecords records_bytes records_at }
 {}

@@ -1,4 +1,5 @@
--- The JSON values that are written here: texts in UTF-8, whole numbers from 0 to 2^64 - 1, and objects whose keys stand in byte order, each once.
+-- The JSON values that are written here: texts in UTF-8, whole numbers from 0 to 2^64 - 1, and objects whose keys
+-- stand in byte order, each once.
 use Rattle.std.specs.Prelude.{◌≡◌, ◌<◌, ◌^◌, ℕ, List, [], ◌∷◌}
 use Rattle.std.specs.Str.{IsUtf8}
 use Rattle.serde_json.specs.Data.{Num, unsigned, negative, float, Data, null, boolean, number, string, array, object, Items, no_items, item, Members, no_members, member, put}

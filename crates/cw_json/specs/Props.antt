@@ -1,10 +1,10 @@
--- Which properties a JSON value stands for. Connect's REST API sends a connector's config as an object; that whole numbers and truth
--- values are taken as their JSON text is this project's own rule.
-use Rattle.std.specs.Prelude.{◌≡◌, ◌≢◌, ℕ, List, [], ◌∷◌, ◌++◌, Option, Some, None, Result, Ok, Err, MatchResult, codes, decimal, if◌then◌else◌}
+-- Which properties a JSON value stands for. Connect's REST API sends a connector's config as an object; that whole
+-- numbers and truth values are taken as their JSON text is this project's own rule.
+use Rattle.std.specs.Prelude.{ℕ, List, [], ◌∷◌, ◌++◌, Option, Some, None, Result, Ok, Err, codes, decimal, if◌then◌else◌}
 use Rattle.std.specs.Fmt.{signed_decimal}
 use Rattle.serde_json.specs.Data.{Num, unsigned, negative, float, Data, null, boolean, number, string, array, object, Members, no_members, member}
 use Rattle.cw_json.specs.declared.fault.JsonFault.{JsonFault}
-use Rattle.cw_json.specs.declared.fault.JsonFault.TheVariants.{NotObject, BadValue, Memory}
+use Rattle.cw_json.specs.declared.fault.JsonFault.TheVariants.{NotObject, BadValue}
 
 -- a number from -2^63 to 2^64 - 1 that is written without a point and an exponent is whole, all others are floats
 abbrev pub number_property : Num → Option (List ℕ)
@@ -22,12 +22,14 @@ property (array ds) = None
 property (object ms) = None
 
 -- pairs in front of what the others give
-abbrev pub with_front : List (List ℕ × List ℕ) → Result (List (List ℕ × List ℕ)) JsonFault → Result (List (List ℕ × List ℕ)) JsonFault
+abbrev pub with_front : List (List ℕ × List ℕ) → Result (List (List ℕ × List ℕ)) JsonFault →
+    Result (List (List ℕ × List ℕ)) JsonFault
 with_front front (Ok pairs) = Ok (front ++ pairs)
 with_front front (Err fault) = Err fault
 
 -- a property in front of those behind it
-abbrev pub add_property : List ℕ → Option (List ℕ) → Result (List (List ℕ × List ℕ)) JsonFault → Result (List (List ℕ × List ℕ)) JsonFault
+abbrev pub add_property : List ℕ → Option (List ℕ) → Result (List (List ℕ × List ℕ)) JsonFault →
+    Result (List (List ℕ × List ℕ)) JsonFault
 add_property key None rest = Err (BadValue key)
 add_property key (Some value) rest = with_front ((key, value) ∷ []) rest
 
@@ -44,7 +46,3 @@ props_of_data (boolean b) = Err NotObject
 props_of_data (number n) = Err NotObject
 props_of_data (string s) = Err NotObject
 props_of_data (array ds) = Err NotObject
-
--- a call gives just what is meant, unless memory ran out
-abbrev pub Gives : {A : Type 0} → Result A JsonFault → Result A JsonFault → Type 0
-Gives result meant = MatchResult result (λ x. meant ≡ Ok x) (λ fault. fault ≢ Memory → meant ≡ Err fault)

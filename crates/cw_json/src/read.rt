@@ -1,7 +1,8 @@
 //! From texts and JSON values to properties.
 ghost use Rattle.std.specs.Prelude.{◌≡◌, IfOk, option_map};
+ghost use Rattle.cw_types.specs.Answers.{Gives};
 ghost use Rattle.serde_json.specs.View.{view, number_view, members_view};
-ghost use Rattle.cw_json.specs.Props.{number_property, property, member_props, props_of_data, Gives};
+ghost use Rattle.cw_json.specs.Props.{number_property, property, member_props, props_of_data};
 ghost use Rattle.cw_json.specs.Reading.{reading, props_of_text};
 
 use crate::fault::JsonFault;
@@ -38,7 +39,7 @@ fn property(alloc: Global, value: &Value) -> Result<Option<Text>, AllocError>
 
 // The properties that an object's members are.
 fn props_of_members(alloc: Global, members: &Map<String, Value>) -> Result<Props, JsonFault>
-    ensures { Gives result (member_props (members_view members.now.entries)) }
+    ensures { Gives JsonFault.Memory result (member_props (members_view members.now.entries)) }
 {
     let mut pairs = Vec::new(alloc);
     for (key, value) in members.iter() {
@@ -55,7 +56,7 @@ fn props_of_members(alloc: Global, members: &Map<String, Value>) -> Result<Props
 /// values as their JSON text. The fault is NotObject for another kind, else BadValue with the first
 /// key, by bytes, whose value is of no such kind.
 pub fn props_of(alloc: Global, value: &Value) -> Result<Props, JsonFault>
-    ensures { Gives result (props_of_data (view value.now)) }
+    ensures { Gives JsonFault.Memory result (props_of_data (view value.now)) }
 {
     match value.as_object() {
         Some(members) => props_of_members(alloc, members),
@@ -80,7 +81,7 @@ pub fn read_value(alloc: Global, text: &[u8]) -> Result<Option<Value>, AllocErro
 /// The properties that a text stands for. The fault is NotJson where the text is no JSON, else that of
 /// `props_of`.
 pub fn read_props(alloc: Global, text: &[u8]) -> Result<Props, JsonFault>
-    ensures { Gives result (props_of_text text.now) }
+    ensures { Gives JsonFault.Memory result (props_of_text text.now) }
 {
     match read_value(alloc, text)? {
         Some(value) => props_of(alloc, &value),

@@ -21,7 +21,8 @@ fn put_text(
     key: &Text,
     value: &Text,
 ) -> Result<(), AllocError>
-    ensures { OnOk result (members_view members.new.entries ≡ put key.now (string value.now) (members_view members.old.entries)) }
+    ensures { OnOk result (members_view members.new.entries ≡
+        put key.now (string value.now) (members_view members.old.entries)) }
 {
     let value = Value::String(String::from_str(alloc, value.as_str())?);
     members.insert(String::from_str(alloc, key.as_str())?, value)?;
@@ -52,5 +53,6 @@ pub fn text_of(alloc: Global, props: &Props) -> Result<Vec<u8>, AllocError>
 /// are read again from what is written for them.
 pub fn texts_are_read_again()
     ensures values { (d : Data) → IsPlain d → depth d ≤ max_depth → reading (compact_text d) ≡ Some d }
-    ensures properties { (pairs : List (List ℕ × List ℕ)) → IsRising pairs → AreTexts pairs → props_of_text (props_text pairs) ≡ Ok pairs }
+    ensures properties { (pairs : List (List ℕ × List ℕ)) → IsRising pairs → AreTexts pairs →
+        props_of_text (props_text pairs) ≡ Ok pairs }
 {}
