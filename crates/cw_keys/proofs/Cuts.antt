@@ -5,7 +5,8 @@ use Rattle.std.specs.Cmp.Lexicographic.{bytes_decides}
 use Rattle.std.proofs.lemmas.List.{take_all}
 use Rattle.std.proofs.lemmas.Option.{option_and_then_some, same_Some}
 use Rattle.std.proofs.lemmas.Bool.Decides.{nat_tests}
-use Rattle.cw_types.specs.Name.{name_fault, IsName}
+use Rattle.cw_types.specs.Name.{name_fault, unless_fault, name_of, IsName}
+use Rattle.cw_types.specs.Task.{task_of_parts}
 use Rattle.cw_types.specs.Decimal.{number_of}
 use Rattle.std.specs.Char.{is_ascii_digit}
 use Rattle.std.specs.List.{list_all}
@@ -13,7 +14,7 @@ use Rattle.std.proofs.lemmas.Fmt.{digits_decimal}
 use Rattle.cw_types.proofs.Decimals.{own, number_only, number_again}
 use Rattle.cw_types.specs.declared.ids.TaskId.{TaskId}
 use Rattle.cw_types.specs.declared.name.NameFault.{NameFault}
-use Rattle.cw_keys.specs.Names.{unless_fault, name_of, before_cut, cut_last, task_id, task_of, task_text, IsTask}
+use Rattle.cw_keys.specs.Names.{before_cut, cut_last, task_of, task_text, IsTask}
 
 -- a text that starts so is that start and the rest
 pub start : (bytes needle : List ℕ) → starts_with nat_eq bytes needle ≡ true → bytes ≡ needle ++ drop (length needle) bytes
@@ -106,7 +107,7 @@ task_again id task =
     let small : id.index < 2 ^ 32 = task.1 in
     rw (append_assoc id.connector (codes "-") (decimal id.index)) (rw (cut_again id.connector (decimal id.index) (decimal_no_dash id.index (omega arith)), name_again id.connector task.0, number_again (2 ^ 32 - 1) id.index (omega arith) (omega arith)) refl)
 
-task_id_only : (id : TaskId) (name : Option (List ℕ)) (index : Option ℕ) → task_id name index ≡ Some id → (name ≡ Some id.connector) × (index ≡ Some id.index)
+task_id_only : (id : TaskId) (name : Option (List ℕ)) (index : Option ℕ) → task_of_parts name index ≡ Some id → (name ≡ Some id.connector) × (index ≡ Some id.index)
 task_id_only id None index e = cc
 task_id_only id (Some name) None e = cc
 task_id_only id (Some name) (Some index) e = let same : record { connector = name; index = index } ≡ id = same_Some _ _ e in (ap (λ (i : TaskId). Some i.connector) same, ap (λ (i : TaskId). Some i.index) same)

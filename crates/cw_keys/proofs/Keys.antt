@@ -4,7 +4,7 @@ use Rattle.std.specs.List.{starts_with}
 use Rattle.cw_types.specs.Name.{IsName}
 use Rattle.cw_types.specs.declared.ids.Item.{Item}
 use Rattle.cw_types.specs.declared.ids.Item.TheVariants as item
-use Rattle.cw_keys.specs.Names.{name_of}
+use Rattle.cw_types.specs.Name.{name_of}
 use Rattle.cw_keys.specs.ConfigKeys.{set_key, config_key, config_key_text, IsConfigKey}
 use Rattle.cw_keys.specs.Statuses.{status_item, status_key, IsItem}
 use Rattle.cw_keys.specs.declared.config_key.ConfigKey.{ConfigKey}

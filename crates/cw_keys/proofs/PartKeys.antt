@@ -12,7 +12,7 @@ use Rattle.cw_types.specs.declared.ids.PartKey.TheVariants.{Raw, File, Seq, Sink
 use Rattle.cw_json.specs.Reading.{reading}
 use Rattle.cw_json.specs.Plain.{IsPlain}
 use Rattle.cw_json.proofs.Written.{reading-compact_text}
-use Rattle.cw_keys.specs.Names.{name_of}
+use Rattle.cw_types.specs.Name.{name_of}
 use Rattle.cw_keys.specs.Counts.{below_32, u64_at, count_at}
 use Rattle.cw_keys.specs.Parts.{key_data, file_partition, seq_partition, sink_partition, part_data, part_text, is_raw, IsPart, name_at, first_some, part_named, part_in_items, part_of}
 use Rattle.cw_keys.proofs.Ascii.{name_utf8}

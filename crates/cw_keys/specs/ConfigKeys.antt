@@ -1,9 +1,9 @@
--- The keys of Connect's config topic: a connector's config, the config of one of its tasks, the record that commits a set of tasks,
--- the target state (KIP-875 added STOPPED), and the fence before a new set of tasks (KIP-618).
+-- The keys of Connect's config topic: a connector's config, the config of one of its tasks, the record that commits a
+-- set of tasks, the target state (KIP-875 added STOPPED), and the fence before a new set of tasks (KIP-618).
 use Rattle.std.specs.Prelude.{ℕ, List, ◌++◌, drop, nat_eq, Bool, true, false, Option, None, option_map, codes, if◌then◌else◌}
 use Rattle.std.specs.List.{starts_with}
-use Rattle.cw_types.specs.Name.{IsName}
-use Rattle.cw_keys.specs.Names.{name_of, task_of, task_text, IsTask}
+use Rattle.cw_types.specs.Name.{name_of, IsName}
+use Rattle.cw_keys.specs.Names.{task_of, task_text, IsTask}
 use Rattle.cw_keys.specs.declared.config_key.ConfigKey.{ConfigKey}
 use Rattle.cw_keys.specs.declared.config_key.ConfigKey.TheVariants.{Connector, Task, Commit, Target, Fencing}
 

@@ -1,4 +1,5 @@
--- Counts of tasks: `{"tasks":n}` commits a set of tasks (Connect's config topic), `{"task-count":n}` fences one (KIP-618).
+-- Counts of tasks: `{"tasks":n}` commits a set of tasks (Connect's config topic), `{"task-count":n}` fences one
+-- (KIP-618).
 use Rattle.std.specs.Prelude.{ℕ, ◌^◌, nat_lt, List, Option, Some, None, option_and_then, codes, if◌then◌else◌}
 use Rattle.serde_json.specs.Data.{Data, object, member, no_members, number, unsigned}
 use Rattle.serde_json.specs.Find.{get, as_number, as_u64}

@@ -8,4 +8,3 @@ pub mod Statuses
 pub mod Traces
 pub mod Parts
 pub mod Offsets
-pub mod Answers

@@ -1,19 +1,10 @@
--- Names and tasks within keys. Connect's config and status topics name a task by its connector, a dash and its index; a connector's name
--- may hold dashes itself, so a task is cut at the last one.
+-- Tasks within keys. Connect's config and status topics name a task by its connector, a dash and its index; a
+-- connector's name may hold dashes itself, so a task is cut at the last one.
 use Rattle.std.specs.Prelude.{◌<◌, ◌^◌, ◌-◌, ℕ, ◌==◌, List, [], ◌∷◌, ◌++◌, Option, Some, None, option_and_then, codes, decimal, if◌then◌else◌}
-use Rattle.cw_types.specs.Name.{name_fault, IsName}
+use Rattle.cw_types.specs.Name.{name_of, IsName}
 use Rattle.cw_types.specs.Decimal.{number_of}
+use Rattle.cw_types.specs.Task.{task_of_parts}
 use Rattle.cw_types.specs.declared.ids.TaskId.{TaskId}
-use Rattle.cw_types.specs.declared.name.NameFault.{NameFault}
-
--- the bytes, where they have no fault
-abbrev pub unless_fault : List ℕ → Option NameFault → Option (List ℕ)
-unless_fault bytes None = Some bytes
-unless_fault bytes (Some fault) = None
-
--- the name that bytes are
-abbrev pub name_of : List ℕ → Option (List ℕ)
-name_of bytes = unless_fault bytes (name_fault bytes)
 
 -- one more byte before the last dash, or the dash itself
 abbrev pub before_cut : ℕ → List ℕ → Option (List ℕ × List ℕ) → Option (List ℕ × List ℕ)
@@ -25,15 +16,10 @@ abbrev pub cut_last : List ℕ → Option (List ℕ × List ℕ)
 cut_last [] = None
 cut_last (c ∷ cs) = before_cut c cs (cut_last cs)
 
--- a task, where both its parts are well formed
-abbrev pub task_id : Option (List ℕ) → Option ℕ → Option TaskId
-task_id None index = None
-task_id (Some name) None = None
-task_id (Some name) (Some index) = Some (record { connector = name; index = index })
-
 -- the task that bytes are: a name, a dash, and an index below 2^32 in decimal
 abbrev pub task_of : List ℕ → Option TaskId
-task_of bytes = option_and_then (λ parts. task_id (name_of parts.0) (number_of (2 ^ 32 - 1) parts.1)) (cut_last bytes)
+task_of bytes =
+    option_and_then (λ parts. task_of_parts (name_of parts.0) (number_of (2 ^ 32 - 1) parts.1)) (cut_last bytes)
 
 -- the bytes of a task
 abbrev pub task_text : TaskId → List ℕ

@@ -1,5 +1,5 @@
--- The values of Connect's offset topic: `{"position":n}` for a source's partition, `{"kafka_offset":n}` for a sink's topic (KIP-875).
--- Members may stand in any order, and members of other names are passed over.
+-- The values of Connect's offset topic: `{"position":n}` for a source's partition, `{"kafka_offset":n}` for a sink's
+-- topic (KIP-875). Members may stand in any order, and members of other names are passed over.
 use Rattle.std.specs.Prelude.{ℕ, List, Option, option_and_then, codes}
 use Rattle.serde_json.specs.Written.{compact_text}
 use Rattle.cw_types.specs.declared.ids.PartKey.{PartKey}

@@ -1,14 +1,14 @@
--- The keys of Connect's offset topic: `["CONNECTOR",PARTITION]`. A partition is `{"filename":"FEED"}`, `{"sequence":I}`, or
--- `{"kafka_partition":0,"kafka_topic":"TOPIC"}` for a sink (KIP-875). A key is compared by its bytes, so each part has one spelling.
+-- The keys of Connect's offset topic: `["CONNECTOR",PARTITION]`. A partition is `{"filename":"FEED"}`,
+-- `{"sequence":I}`, or `{"kafka_partition":0,"kafka_topic":"TOPIC"}` for a sink (KIP-875). A key is compared by its
+-- bytes, so each part has one spelling.
 use Rattle.std.specs.Prelude.{◌<◌, ◌^◌, ℕ, List, Bool, true, false, Option, Some, None, option_map, option_and_then, bytes_eq, codes, if◌then◌else◌}
 use Rattle.serde_json.specs.Data.{Data, null, number, string, array, object, Items, no_items, item, member, no_members, unsigned}
 use Rattle.serde_json.specs.Find.{get, as_str, as_array}
 use Rattle.serde_json.specs.Written.{compact_text}
-use Rattle.cw_types.specs.Name.{IsName}
+use Rattle.cw_types.specs.Name.{name_of, IsName}
 use Rattle.cw_types.specs.declared.ids.PartKey.{PartKey}
 use Rattle.cw_types.specs.declared.ids.PartKey.TheVariants.{Raw, File, Seq, Sink}
 use Rattle.cw_json.specs.Reading.{reading}
-use Rattle.cw_keys.specs.Names.{name_of}
 use Rattle.cw_keys.specs.Counts.{count_at}
 
 -- the JSON of a key: a connector and a partition
@@ -25,7 +25,9 @@ seq_partition index = object (member (codes "sequence") (number (unsigned index)
 
 -- a topic of a sink, whose only partition is 0
 abbrev pub sink_partition : List ℕ → Data
-sink_partition topic = object (member (codes "kafka_partition") (number (unsigned 0)) (member (codes "kafka_topic") (string topic) no_members))
+sink_partition topic =
+    object (member (codes "kafka_partition") (number (unsigned 0)) (
+    member (codes "kafka_topic") (string topic) no_members))
 
 -- the JSON of a part's key; a part of a script has none
 abbrev pub part_data : PartKey → Data
@@ -63,14 +65,17 @@ first_some None other = other
 
 -- the part of a connector that a partition's members name
 abbrev pub part_named : List ℕ → Data → Option PartKey
-part_named connector d = first_some (option_map (File connector) (name_at (codes "filename") d))
-    (first_some (option_map (Seq connector) (count_at (codes "sequence") d)) (option_map (Sink connector) (name_at (codes "kafka_topic") d)))
+part_named connector d =
+    first_some (option_map (File connector) (name_at (codes "filename") d)) (
+    first_some (option_map (Seq connector) (count_at (codes "sequence") d)) (
+    option_map (Sink connector) (name_at (codes "kafka_topic") d)))
 
 -- the part that a connector and a partition name
 abbrev pub part_in_items : Items → Option PartKey
 part_in_items no_items = None
 part_in_items (item connector no_items) = None
-part_in_items (item connector (item partition rest)) = option_and_then (λ name. part_named name partition) (option_and_then name_of (as_str connector))
+part_in_items (item connector (item partition rest)) =
+    option_and_then (λ name. part_named name partition) (option_and_then name_of (as_str connector))
 
 -- the part that bytes name, where they are just the bytes that are written for it
 abbrev pub part_of : List ℕ → Option PartKey

@@ -1,18 +1,19 @@
 -- The records of Connect's status topic: `status-connector-NAME` or `status-task-NAME-INDEX`, and
--- `{"generation":r,"state":S,"trace":T,"worker_id":"worker-N"}`. T is null or a text; members may stand in any order, and members of other
--- names are passed over. That a worker's id is `worker-` and its number is this project's own choice.
+-- `{"generation":r,"state":S,"trace":T,"worker_id":"worker-N"}`. T is null or a text; members may stand in any order,
+-- and members of other names are passed over. That a worker's id is `worker-` and its number is this project's own
+-- choice.
 use Rattle.std.specs.Prelude.{◌<◌, ◌^◌, ◌-◌, ℕ, List, ◌++◌, drop, nat_eq, Option, Some, None, Result, Ok, Err, option_map, option_and_then, bytes_eq, codes, decimal, if◌then◌else◌}
 use Rattle.std.specs.List.{starts_with}
 use Rattle.std.specs.Str.{IsUtf8}
 use Rattle.serde_json.specs.Data.{Data, null, boolean, number, string, array, object, member, no_members, unsigned}
 use Rattle.serde_json.specs.Find.{get, as_str}
 use Rattle.serde_json.specs.Written.{compact_text}
-use Rattle.cw_types.specs.Name.{IsName}
+use Rattle.cw_types.specs.Name.{name_of, IsName}
 use Rattle.cw_types.specs.Decimal.{number_of}
 use Rattle.cw_types.specs.declared.ids.Item.{Item}
 use Rattle.cw_types.specs.declared.ids.Item.TheVariants.{Connector, Task}
 use Rattle.cw_json.specs.Reading.{reading}
-use Rattle.cw_keys.specs.Names.{name_of, task_of, task_text, IsTask}
+use Rattle.cw_keys.specs.Names.{task_of, task_text, IsTask}
 use Rattle.cw_keys.specs.Counts.{u64_at}
 use Rattle.cw_keys.specs.declared.state.State.{State}
 use Rattle.cw_keys.specs.declared.state.State.TheVariants.{Unassigned, Running, Paused, Failed, Restarting, Stopped}
@@ -74,13 +75,17 @@ text_at key d = option_and_then as_str (get key d)
 
 -- a status, where each of its members is well formed
 abbrev pub status_with : Option State → Option (Option (List ℕ)) → Option ℕ → Option ℕ → Option StatusValue
-status_with (Some state) (Some trace) (Some worker) (Some round) = Some (record { state = state; trace = trace; worker = worker; round = round })
+status_with (Some state) (Some trace) (Some worker) (Some round) =
+    Some (record { state = state; trace = trace; worker = worker; round = round })
 status_with _ _ _ _ = None
 
 -- the status that JSON tells: each of the four members is there and well formed
 abbrev pub status_value : Data → Option StatusValue
-status_value d = status_with (option_and_then state_named (text_at (codes "state") d)) (option_and_then trace_in (get (codes "trace") d))
-    (option_and_then worker_named (text_at (codes "worker_id") d)) (u64_at (codes "generation") d)
+status_value d =
+    status_with (option_and_then state_named (text_at (codes "state") d))
+    (option_and_then trace_in (get (codes "trace") d))
+    (option_and_then worker_named (text_at (codes "worker_id") d))
+    (u64_at (codes "generation") d)
 
 -- a trace as it is written
 abbrev pub trace_data : Option (List ℕ) → Data
@@ -89,8 +94,11 @@ trace_data (Some text) = string text
 
 -- a status as it is written
 abbrev pub status_data : StatusValue → Data
-status_data status = object (member (codes "generation") (number (unsigned status.round)) (member (codes "state") (string (state_name status.state))
-    (member (codes "trace") (trace_data status.trace) (member (codes "worker_id") (string (codes "worker-" ++ decimal status.worker)) no_members))))
+status_data status =
+    object (member (codes "generation") (number (unsigned status.round)) (
+    member (codes "state") (string (state_name status.state)) (
+    member (codes "trace") (trace_data status.trace) (
+    member (codes "worker_id") (string (codes "worker-" ++ decimal status.worker)) no_members))))
 
 -- the text of a status
 abbrev pub status_text : StatusValue → List ℕ

@@ -1,5 +1,5 @@
--- A connector's target state: `{"state":S,"state.v2":S}`. KIP-875 added STOPPED in `state.v2` and leaves PAUSED in `state` for workers
--- that don't know it; without `state.v2` the `state` alone counts.
+-- A connector's target state: `{"state":S,"state.v2":S}`. KIP-875 added STOPPED in `state.v2` and leaves PAUSED in
+-- `state` for workers that don't know it; without `state.v2` the `state` alone counts.
 use Rattle.std.specs.Prelude.{ℕ, List, Option, Some, None, option_and_then, bytes_eq, codes, if◌then◌else◌}
 use Rattle.serde_json.specs.Data.{Data, object, member, no_members, string}
 use Rattle.serde_json.specs.Find.{get, as_str}
@@ -20,7 +20,8 @@ newer None state = state
 
 -- the target state that a value tells
 abbrev pub target_of : Data → Option Target
-target_of d = option_and_then target_named (option_and_then as_str (newer (get (codes "state.v2") d) (get (codes "state") d)))
+target_of d =
+    option_and_then target_named (option_and_then as_str (newer (get (codes "state.v2") d) (get (codes "state") d)))
 
 -- the name in `state.v2`
 abbrev pub target_name : Target → List ℕ
@@ -36,4 +37,6 @@ old_target_name Stopped = codes "PAUSED"
 
 -- a target state as it is written
 abbrev pub target_data : Target → Data
-target_data target = object (member (codes "state") (string (old_target_name target)) (member (codes "state.v2") (string (target_name target)) no_members))
+target_data target =
+    object (member (codes "state") (string (old_target_name target)) (
+    member (codes "state.v2") (string (target_name target)) no_members))

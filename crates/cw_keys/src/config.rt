@@ -1,6 +1,6 @@
 //! Records of the config log: a key, and a value of its kind or none.
 ghost use Rattle.std.specs.Prelude.{◌≡◌, true, IfOk, IfErr, Ok, option_map};
-ghost use Rattle.cw_keys.specs.Answers.{Gives};
+ghost use Rattle.cw_types.specs.Answers.{Gives};
 ghost use Rattle.cw_keys.specs.ConfigKeys.{config_key_text};
 ghost use Rattle.cw_keys.specs.Configs.{config_of, config_text, is_record, IsTextOf};
 
@@ -17,7 +17,7 @@ pub fn read_config(
     key: &[u8],
     value: Option<&[u8]>,
 ) -> Result<(ConfigKey, Option<ConfigValue>), KeyFault>
-    ensures record { Gives result (config_of key.now (option_map (λ text. text.now) value.entry)) }
+    ensures record { Gives KeyFault.Memory result (config_of key.now (option_map (λ text. text.now) value.entry)) }
     ensures writable { IfOk result (λ read. is_record read.0 read.1 ≡ true) }
 {
     let Some(key) = read_key(alloc, key)? else {
@@ -38,8 +38,10 @@ pub fn read_config(
 
 // The text of a value, if there is one.
 fn write_some(alloc: Global, value: Option<&ConfigValue>) -> Result<Option<Vec<u8>>, AllocError>
-    ensures text { IfOk result (λ text. option_map (λ t. t.items) text ≡ option_map (λ v. config_text v.now) value.entry) }
-    ensures again { IfOk result (λ text. IsTextOf (option_map (λ t. t.items) text) (option_map (λ v. v.now) value.entry)) }
+    ensures text { IfOk result (λ text.
+        option_map (λ t. t.items) text ≡ option_map (λ v. config_text v.now) value.entry) }
+    ensures again { IfOk result (λ text.
+        IsTextOf (option_map (λ t. t.items) text) (option_map (λ v. v.now) value.entry)) }
 {
     match value {
         Some(value) => Ok(Some(write_value(alloc, value)?)),
@@ -56,8 +58,11 @@ pub fn write_config(
 ) -> Result<(Vec<u8>, Option<Vec<u8>>), KeyFault>
     requires { is_record key.now (option_map (λ v. v.now) value) ≡ true }
     ensures key { IfOk result (λ bytes. bytes.0.items ≡ config_key_text key.now) }
-    ensures value { IfOk result (λ bytes. option_map (λ t. t.items) bytes.1 ≡ option_map (λ v. config_text v.now) value.entry) }
-    ensures again { IfOk result (λ bytes. config_of bytes.0.items (option_map (λ t. t.items) bytes.1) ≡ Ok (key.now, option_map (λ v. v.now) value.entry)) }
+    ensures value { IfOk result (λ bytes.
+        option_map (λ t. t.items) bytes.1 ≡ option_map (λ v. config_text v.now) value.entry) }
+    ensures again { IfOk result (λ bytes.
+        config_of bytes.0.items (option_map (λ t. t.items) bytes.1) ≡
+        Ok (key.now, option_map (λ v. v.now) value.entry)) }
     ensures memory { IfErr result (λ fault. fault ≡ KeyFault.Memory) }
 {
     let bytes = write_key(alloc, key)?;

@@ -1,10 +1,10 @@
 //! Keys of the config log.
 ghost use Rattle.std.specs.Prelude.{◌≡◌, IfOk, OnOk, option_map};
-ghost use Rattle.cw_keys.specs.Names.{name_of};
+ghost use Rattle.cw_types.specs.Name.{name_of};
 ghost use Rattle.cw_keys.specs.declared.config_key.ConfigKey.TheVariants.{Commit, Target, Fencing};
 ghost use Rattle.cw_keys.specs.ConfigKeys.{set_key, config_key, config_key_text, IsConfigKey, may_be_removed};
 
-use crate::names::{read_name, read_task, text_and_name, text_and_task};
+use crate::names::{read_task, text_and_name, text_and_task};
 use cw_types::{Name, TaskId};
 use std::alloc::{AllocError, Global};
 
@@ -41,19 +41,19 @@ impl ConfigKey {
 fn commit_key(alloc: Global, name: &[u8]) -> Result<Option<ConfigKey>, AllocError>
     ensures { IfOk result (λ key. key ≡ option_map Commit (name_of name.now)) }
 {
-    Ok(read_name(alloc, name)?.map(ConfigKey::Commit))
+    Ok(Name::from_bytes(alloc, name)?.map(ConfigKey::Commit))
 }
 
 fn target_key(alloc: Global, name: &[u8]) -> Result<Option<ConfigKey>, AllocError>
     ensures { IfOk result (λ key. key ≡ option_map Target (name_of name.now)) }
 {
-    Ok(read_name(alloc, name)?.map(ConfigKey::Target))
+    Ok(Name::from_bytes(alloc, name)?.map(ConfigKey::Target))
 }
 
 fn fencing_key(alloc: Global, name: &[u8]) -> Result<Option<ConfigKey>, AllocError>
     ensures { IfOk result (λ key. key ≡ option_map Fencing (name_of name.now)) }
 {
-    Ok(read_name(alloc, name)?.map(ConfigKey::Fencing))
+    Ok(Name::from_bytes(alloc, name)?.map(ConfigKey::Fencing))
 }
 
 // The key of a set of tasks or of a target state that bytes are.
@@ -76,7 +76,7 @@ pub(crate) fn read_key(alloc: Global, bytes: &[u8]) -> Result<Option<ConfigKey>,
     ensures { IfOk result (λ key. key ≡ config_key bytes.now) }
 {
     if bytes.starts_with(b"connector-") {
-        Ok(read_name(alloc, &bytes[10..])?.map(ConfigKey::Connector))
+        Ok(Name::from_bytes(alloc, &bytes[10..])?.map(ConfigKey::Connector))
     } else if bytes.starts_with(b"task-") {
         Ok(read_task(alloc, &bytes[5..])?.map(ConfigKey::Task))
     } else {

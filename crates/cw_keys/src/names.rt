@@ -1,22 +1,11 @@
 //! Names and tasks within keys.
 ghost use Rattle.std.specs.Prelude.{◌≡◌, ◌<◌, ◌^◌, ◌++◌, IfOk, OnOk, option_map};
-ghost use Rattle.cw_keys.specs.Names.{name_of, cut_last, task_of, task_text};
+ghost use Rattle.cw_keys.specs.Names.{cut_last, task_of, task_text};
 ghost use Rattle.cw_types.specs.Name.{IsName};
 
-use cw_types::{Name, NameFault, TaskId, read_u32};
+use cw_types::{Name, TaskId};
 use memchr::memrchr;
 use std::alloc::{AllocError, Global};
-
-// The name that bytes are.
-pub(crate) fn read_name(alloc: Global, bytes: &[u8]) -> Result<Option<Name>, AllocError>
-    ensures { IfOk result (λ name. name ≡ name_of bytes.now) }
-{
-    match Name::read(alloc, bytes) {
-        Ok(name) => Ok(Some(name)),
-        Err(NameFault::Memory) => Err(AllocError),
-        Err(_) => Ok(None),
-    }
-}
 
 // What stands before the last dash, and behind it.
 fn cut_last(bytes: &[u8]) -> Option<(&[u8], &[u8])>
@@ -30,14 +19,8 @@ fn cut_last(bytes: &[u8]) -> Option<(&[u8], &[u8])>
 pub(crate) fn read_task(alloc: Global, bytes: &[u8]) -> Result<Option<TaskId>, AllocError>
     ensures { IfOk result (λ id. id ≡ task_of bytes.now) }
 {
-    let Some((front, back)) = cut_last(bytes) else {
-        return Ok(None);
-    };
-    let Some(connector) = read_name(alloc, front)? else {
-        return Ok(None);
-    };
-    match read_u32(back) {
-        Some(index) => Ok(Some(TaskId { connector, index })),
+    match cut_last(bytes) {
+        Some((connector, index)) => TaskId::from_bytes(alloc, connector, index),
         None => Ok(None),
     }
 }

@@ -1,8 +1,8 @@
 //! Values of the offset log.
-ghost use Rattle.std.specs.Prelude.{◌≡◌, false, Some, IfOk, IfErr, option_and_then};
+ghost use Rattle.std.specs.Prelude.{◌≡◌, false, Some, IfOk, IfErr, ok_or, option_and_then};
 ghost use Rattle.serde_json.specs.View.{view};
 ghost use Rattle.cw_json.specs.Reading.{reading};
-ghost use Rattle.cw_keys.specs.Answers.{Gives, or_fault};
+ghost use Rattle.cw_types.specs.Answers.{Gives};
 ghost use Rattle.cw_keys.specs.Counts.{u64_at};
 ghost use Rattle.cw_keys.specs.Offsets.{offset_name, offset_of, offset_text};
 ghost use Rattle.cw_keys.specs.Parts.{is_raw};
@@ -36,7 +36,7 @@ fn u64_in_text(alloc: Global, key: &str, text: &[u8]) -> Result<Option<u64>, All
 /// The offset that a value of the offset log tells of a part: the position of a source's partition, or
 /// the offset in a sink's topic. BadValue comes just where the value isn't in that grammar.
 pub fn read_offset(alloc: Global, part: &PartKey, value: &[u8]) -> Result<u64, KeyFault>
-    ensures { Gives result (or_fault KeyFault.BadValue (offset_of part.now value.now)) }
+    ensures { Gives KeyFault.Memory result (ok_or (offset_of part.now value.now) KeyFault.BadValue) }
 {
     match u64_in_text(alloc, offset_name(part), value)? {
         Some(offset) => Ok(offset),

@@ -1,16 +1,14 @@
 //! Keys of the offset log.
-ghost use Rattle.std.specs.Prelude.{◌≡◌, false, IfOk, IfErr, OnOk, Ok, Some, option_and_then};
+ghost use Rattle.std.specs.Prelude.{◌≡◌, false, IfOk, IfErr, OnOk, Ok, Some, ok_or, option_and_then};
 ghost use Rattle.serde_json.specs.View.{view, items_view};
 ghost use Rattle.serde_json.specs.Find.{as_array, as_str};
 ghost use Rattle.cw_json.specs.Reading.{reading};
-ghost use Rattle.cw_keys.specs.Answers.{Gives, or_fault};
+ghost use Rattle.cw_types.specs.Answers.{Gives};
 ghost use Rattle.cw_keys.specs.Parts.{name_at, part_named, part_in_items, part_of, part_text, part_data, key_data, file_partition, seq_partition, sink_partition, is_raw, IsPart};
-ghost use Rattle.cw_keys.specs.Names.{name_of};
-ghost use Rattle.cw_types.specs.Name.{IsName};
+ghost use Rattle.cw_types.specs.Name.{name_of, IsName};
 
 use crate::fault::KeyFault;
 use crate::members::{count_at, text_of_value};
-use crate::names::read_name;
 use cw_json::read_value;
 use cw_types::{Name, PartKey};
 use serde_json::{Value, json};
@@ -21,7 +19,7 @@ fn name_at(alloc: Global, key: &str, value: &Value) -> Result<Option<Name>, Allo
     ensures { IfOk result (λ name. name ≡ name_at key.now (view value.now)) }
 {
     match value.get(key).and_then(Value::as_str) {
-        Some(text) => read_name(alloc, text.as_bytes()),
+        Some(text) => Name::from_bytes(alloc, text.as_bytes()),
         None => Ok(None),
     }
 }
@@ -51,7 +49,7 @@ fn name_in(alloc: Global, value: &Value) -> Result<Option<Name>, AllocError>
     ensures { IfOk result (λ name. name ≡ option_and_then name_of (as_str (view value.now))) }
 {
     match value.as_str() {
-        Some(text) => read_name(alloc, text.as_bytes()),
+        Some(text) => Name::from_bytes(alloc, text.as_bytes()),
         None => Ok(None),
     }
 }
@@ -92,7 +90,7 @@ fn part_in_text(alloc: Global, text: &[u8]) -> Result<Option<PartKey>, AllocErro
 /// The part whose key these bytes are. BadKey comes just where they are not what `write_part` writes
 /// for a part of a connector: a key is compared by its bytes, so another spelling is another key.
 pub fn read_part(alloc: Global, key: &[u8]) -> Result<PartKey, KeyFault>
-    ensures part { Gives result (or_fault KeyFault.BadKey (part_of key.now)) }
+    ensures part { Gives KeyFault.Memory result (ok_or (part_of key.now) KeyFault.BadKey) }
     ensures writable { IfOk result (λ part. is_raw part ≡ false) }
 {
     let Some(part) = part_in_text(alloc, key)? else {

@@ -3,17 +3,17 @@ ghost use Rattle.std.specs.Prelude.{◌≡◌, ◌<◌, ◌^◌, ◌++◌, IfOk,
 ghost use Rattle.serde_json.specs.Find.{get};
 ghost use Rattle.serde_json.specs.View.{view};
 ghost use Rattle.cw_json.specs.Reading.{reading};
-ghost use Rattle.cw_keys.specs.Answers.{Gives};
+ghost use Rattle.cw_types.specs.Answers.{Gives};
 ghost use Rattle.cw_keys.specs.Names.{task_of};
 ghost use Rattle.cw_types.specs.declared.ids.Item.TheVariants.{Task};
 ghost use Rattle.cw_keys.specs.Statuses.{state_named, status_item, status_key, worker_named, text_at, trace_in, trace_data, status_value, status_data, status_text, status_of, IsItem};
 
 use crate::fault::KeyFault;
 use crate::members::{text_of_value, u64_at};
-use crate::names::{read_name, read_task, text_and_name, text_and_task};
+use crate::names::{read_task, text_and_name, text_and_task};
 use crate::state::{State, state_named};
 use cw_json::{Text, read_value};
-use cw_types::{Item, read_u32};
+use cw_types::{Item, Name, read_u32};
 use serde_json::{Value, json};
 use std::alloc::{AllocError, Global};
 
@@ -65,7 +65,7 @@ fn read_item(alloc: Global, bytes: &[u8]) -> Result<Option<Item>, AllocError>
     ensures { IfOk result (λ item. item ≡ status_item bytes.now) }
 {
     if bytes.starts_with(b"status-connector-") {
-        Ok(read_name(alloc, &bytes[17..])?.map(Item::Connector))
+        Ok(Name::from_bytes(alloc, &bytes[17..])?.map(Item::Connector))
     } else if bytes.starts_with(b"status-task-") {
         task_item(alloc, &bytes[12..])
     } else {
@@ -162,7 +162,7 @@ fn read_status_of(alloc: Global, text: &[u8]) -> Result<Option<StatusValue>, All
 /// connector and no task as Connect's status topic does, else BadValue just where the value is no
 /// status.
 pub fn read_status(alloc: Global, key: &[u8], value: &[u8]) -> Result<(Item, StatusValue), KeyFault>
-    ensures { Gives result (status_of key.now value.now) }
+    ensures { Gives KeyFault.Memory result (status_of key.now value.now) }
 {
     let Some(item) = read_item(alloc, key)? else {
         return Err(KeyFault::BadKey);
@@ -199,7 +199,8 @@ fn status_json(alloc: Global, status: &StatusValue) -> Result<Value, AllocError>
 {
     let trace = trace_value(alloc, &status.trace)?;
     let id = worker_id(alloc, status.worker)?;
-    json!(in alloc; {"generation": status.round, "state": status.state.name(), "trace": trace, "worker_id": id.as_str()})
+    let (round, state) = (status.round, status.state.name());
+    json!(in alloc; {"generation": round, "state": state, "trace": trace, "worker_id": id.as_str()})
 }
 
 // The text of a status.

@@ -1,5 +1,5 @@
 use Rattle.std.proofs.Common.{option_map, sym, ap, ◌∙◌}
-use Rattle.cw_keys.specs.Names.{name_of}
+use Rattle.cw_types.specs.Name.{name_of}
 use Rattle.cw_keys.specs.declared.config_key.ConfigKey.TheVariants.{Target, Fencing}
 use Rattle.cw_keys.proofs.Choice.{taken, passed, behind, if_ok}
 use Rattle.cw_keys.proofs.config_key.read_set_key.Goals as goal
