@@ -1,7 +1,7 @@
 //! Links: connections of which one side reads and writes.
-ghost use Rattle.std.specs.Prelude.{◌≡◌, ℕ, ◌≤◌, ◌<◌, List, [], Some, Option, IfOk, OnOk, OnErr, length, take};
+ghost use Rattle.std.specs.Prelude.{◌≡◌, ℕ, ◌≤◌, ◌<◌, List, Option, IfOk, OnOk, OnErr, length, take};
 ghost use Rattle.cw_types.specs.Faults.{Rose};
-ghost use Rattle.cw_io.specs.Told.{with_front, with_back};
+ghost use Rattle.cw_io.specs.Told.{with_front, with_back, IsAtEnd};
 ghost use Rattle.cw_io.specs.Written.{IsWrittenInPart};
 
 use crate::traits::Failed;
@@ -23,7 +23,7 @@ pub trait Link {
     fn read(&mut self, into: &mut [u8]) -> Result<usize, Failed>
         ensures fits { IfOk result (λ n. n ≤ length into.old) }
         ensures taken { IfOk result (λ n. left self.old ≡ with_front (take n into.new) (left self.new)) }
-        ensures at_end { result ≡ Ok 0 → 0 < length into.old → (bytes : List ℕ) → left self.old ≡ Some bytes → bytes ≡ [] }
+        ensures at_end { result ≡ Ok 0 → 0 < length into.old → IsAtEnd (left self.old) }
         ensures kept { OnErr result (left self.new ≡ left self.old) }
         ensures apart { held self.new ≡ held self.old }
         ensures later { faults self.old ≤ faults self.new }
