@@ -1,3 +1,5 @@
+pub mod Told
 pub mod Written
-pub mod Memory
+pub mod Calls
 pub mod Shelf
+pub mod Memory

@@ -23,7 +23,9 @@ pub struct FolderShelf<'r, R: Files + AllocGlobal + Clone + Drop> {
 
 impl<'r, R: Files + AllocGlobal + Clone + Drop> FolderShelf<'r, R> {
     /// The shelf that is this folder. Nothing is read yet.
-    pub fn new(system: &'r R, folder: &'r str) -> FolderShelf<'r, R> {
+    pub fn new(system: &'r R, folder: &'r str) -> FolderShelf<'r, R>
+        ensures { ⟦<FolderShelf<'r, R> as Shelf>⟧.faults result ≡ 0 }
+    {
         FolderShelf {
             system,
             folder,

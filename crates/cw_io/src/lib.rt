@@ -1,23 +1,32 @@
-//! The outside, as traits: where a script comes from, where its answers go, and where feeds are kept.
+//! The outside, as traits: where a script comes from, where its answers go, where feeds are kept, and a
+//! connection with a peer.
 //!
 //! Its public contract says, for each call, which bytes were taken, added or found where the object tells
-//! its content, and that a call fails only where the object's count of faults rose.
-//! It stands on cw_types. `memory` and `memory_shelf` have objects that tell everything and fail on demand;
-//! `standard` and `folder` have the adapters over real streams and a folder, which are the trusted edge.
+//! its content, and that a call fails only where the object's count of faults rose. Every object begins
+//! with a count of 0. Those in memory tell everything and fail at the calls that they are told to.
+//! It stands on cw_types. `standard`, `folder` and `tcp` have the adapters over real streams, a folder and
+//! a socket, which are the trusted edge.
 #![tactic(auto)]
 
+mod call_plan;
 mod folder;
+mod link;
 mod memory;
+mod memory_link;
 mod memory_shelf;
 mod shelf;
 mod standard;
+mod tcp;
 mod traits;
 
 pub use folder::FolderShelf;
+pub use link::{Link, send_all};
 pub use memory::{MemSink, MemSource};
+pub use memory_link::MemLink;
 pub use memory_shelf::MemShelf;
 pub use shelf::{Shelf, ShelfFault};
 pub use standard::{ReaderSource, WriterSink};
+pub use tcp::TcpLink;
 pub use traits::{Failed, Sink, Source, write_all};
 
 #[cfg(test)]

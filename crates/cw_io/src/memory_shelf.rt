@@ -1,10 +1,13 @@
 //! A shelf in memory. It tells all, and fails at the calls that it is told to.
-ghost use Rattle.std.specs.Prelude.{◌≡◌, ◌≤◌, [], Some, IfOk, OnOk, OnErr};
+ghost use Rattle.std.specs.Prelude.{◌≡◌, ◌≤◌, ◌||◌, [], IfOk, OnOk, OnErr};
+ghost use Rattle.std.specs.Option.{is_none};
 ghost use Rattle.cw_types.specs.Faults.{Rose};
-ghost use Rattle.cw_io.specs.Shelf.{with_file, names_of, AreRising};
+ghost use Rattle.cw_io.specs.Calls.{no_calls, is_listed, after_call};
+ghost use Rattle.cw_io.specs.Shelf.{with_file, names_of, bytes_of, AreRising};
+ghost use Rattle.cw_io.specs.Memory.{is_failed};
 
+use crate::call_plan::CallPlan;
 use crate::shelf::{Shelf, ShelfFault};
-use crate::traits::Failed;
 use cw_types::{Listed, Name};
 use std::alloc::{AllocError, Global};
 use std::collections::BTreeMap;
@@ -15,9 +18,7 @@ use std::marker::Model;
 pub struct MemShelf {
     alloc: Global,
     files: BTreeMap<Name, Listed<u8>>,
-    failing: Vec<u64>,
-    calls: u64,
-    faults: u64,
+    calls: CallPlan,
 }
 
 impl Model for MemShelf {
@@ -25,7 +26,7 @@ impl Model for MemShelf {
 
     ghost Value = { ShelfState };
 
-    ghost view = { λ s. record { files = s.files.entries; faults = s.faults } };
+    ghost view = { λ s. record { files = s.files.entries; calls = s.calls } };
 }
 
 impl MemShelf {
@@ -33,14 +34,12 @@ impl MemShelf {
     /// the calls that read it.
     pub fn new(alloc: Global, failing: Vec<u64>) -> MemShelf
         ensures files { result.files ≡ [] }
-        ensures faults { result.faults ≡ 0 }
+        ensures calls { result.calls ≡ no_calls failing.items }
     {
         MemShelf {
             alloc,
             files: BTreeMap::new(alloc),
-            failing,
-            calls: 0,
-            faults: 0,
+            calls: CallPlan::new(failing),
         }
     }
 
@@ -48,7 +47,7 @@ impl MemShelf {
     pub fn put(&mut self, name: Name, bytes: Vec<u8>) -> Result<(), AllocError>
         ensures put { OnOk result (self.new.files ≡ with_file name bytes.items self.old.files) }
         ensures kept { OnErr result (self.new.files ≡ self.old.files) }
-        ensures faults { self.new.faults ≡ self.old.faults }
+        ensures calls { self.new.calls ≡ self.old.calls }
     {
         self.files.insert(name, Listed::new(bytes))?;
         Ok(())
@@ -56,32 +55,9 @@ impl MemShelf {
 
     /// How many calls failed.
     pub fn faults(&self) -> u64
-        ensures { result ≡ self.now.faults }
+        ensures { result ≡ self.now.calls.faults }
     {
-        self.faults
-    }
-
-    // The next call, which may be one of those that fail.
-    fn call(&mut self) -> Result<(), Failed>
-        ensures files { self.new.files ≡ self.old.files }
-        ensures later { self.old.faults ≤ self.new.faults }
-        ensures rose { OnErr result (Rose self.old.faults self.new.faults) }
-    {
-        let call = self.calls;
-        self.calls = call.saturating_add(1);
-        if self.failing.contains(&call) {
-            self.count_fault();
-            return Err(Failed);
-        }
-        Ok(())
-    }
-
-    fn count_fault(&mut self)
-        ensures files { self.new.files ≡ self.old.files }
-        ensures later { self.old.faults ≤ self.new.faults }
-        ensures rose { Rose self.old.faults self.new.faults }
-    {
-        self.faults = self.faults.saturating_add(1);
+        self.calls.faults()
     }
 
     // Copies of the names.
@@ -98,21 +74,42 @@ impl MemShelf {
 }
 
 impl Shelf for MemShelf {
+    ghost use Rattle.std.specs.Prelude.{Some};
+
     ghost files = { λ s. Some s.files };
 
-    ghost faults = { λ s. s.faults };
+    ghost faults = { λ s. s.calls.faults };
 
-    fn names(&mut self) -> Result<Vec<Name>, ShelfFault> {
-        self.call()?;
+    fn names(&mut self) -> Result<Vec<Name>, ShelfFault>
+        ensures names { IfOk result (λ names. names.items ≡ names_of self.old.files) }
+        ensures rising { IfOk result (λ names. AreRising names.items) }
+        ensures kept { self.new.files ≡ self.old.files }
+        ensures listed { is_failed result ≡ is_listed self.old.calls }
+        ensures calls { self.new.calls ≡ after_call (is_failed result) self.old.calls }
+        ensures later { self.old.calls.faults ≤ self.new.calls.faults }
+        ensures rose { result ≡ Err ShelfFault.Failed → Rose self.old.calls.faults self.new.calls.faults }
+    {
+        if self.calls.fails_next() {
+            return Err(ShelfFault::Failed);
+        }
         Ok(self.copied_names()?)
     }
 
-    fn load(&mut self, name: &Name) -> Result<Vec<u8>, ShelfFault> {
-        self.call()?;
+    fn load(&mut self, name: &Name) -> Result<Vec<u8>, ShelfFault>
+        ensures bytes { IfOk result (λ bytes. bytes_of name.now self.old.files ≡ Some bytes.items) }
+        ensures kept { self.new.files ≡ self.old.files }
+        ensures failed { is_failed result ≡ is_listed self.old.calls || is_none (bytes_of name.now self.old.files) }
+        ensures calls { self.new.calls ≡ after_call (is_failed result) self.old.calls }
+        ensures later { self.old.calls.faults ≤ self.new.calls.faults }
+        ensures rose { result ≡ Err ShelfFault.Failed → Rose self.old.calls.faults self.new.calls.faults }
+    {
+        if self.calls.fails_next() {
+            return Err(ShelfFault::Failed);
+        }
         match self.files.get(name) {
             Some(bytes) => Ok(bytes.as_slice().to_vec(self.alloc)?),
             None => {
-                self.count_fault();
+                self.calls.count_fault();
                 Err(ShelfFault::Failed)
             }
         }

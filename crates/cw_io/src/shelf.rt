@@ -48,7 +48,7 @@ pub trait Shelf {
 
     /// The names of its files, in the order of their bytes.
     fn names(&mut self) -> Result<Vec<Name>, ShelfFault>
-        ensures names { IfOk result (λ names. (held : Files) → files self.old ≡ Some held → names.items ≡ names_of held) }
+        ensures names { IfOk result (λ names. (f : Files) → files self.old ≡ Some f → names.items ≡ names_of f) }
         ensures rising { IfOk result (λ names. AreRising names.items) }
         ensures kept { files self.new ≡ files self.old }
         ensures later { faults self.old ≤ faults self.new }
@@ -56,7 +56,7 @@ pub trait Shelf {
 
     /// The bytes of the file of this name. Where there is none, it fails.
     fn load(&mut self, name: &Name) -> Result<Vec<u8>, ShelfFault>
-        ensures bytes { IfOk result (λ bytes. (held : Files) → files self.old ≡ Some held → bytes_of name.now held ≡ Some bytes.items) }
+        ensures bytes { IfOk result (λ b. (f : Files) → files self.old ≡ Some f → bytes_of name.now f ≡ Some b.items) }
         ensures kept { files self.new ≡ files self.old }
         ensures later { faults self.old ≤ faults self.new }
         ensures rose { result ≡ Err ShelfFault.Failed → Rose (faults self.old) (faults self.new) };

@@ -14,7 +14,9 @@ pub struct ReaderSource<R: Read> {
 
 impl<R: Read> ReaderSource<R> {
     /// A source over this reader, with no fault so far.
-    pub fn new(reader: R) -> ReaderSource<R> {
+    pub fn new(reader: R) -> ReaderSource<R>
+        ensures { ⟦<ReaderSource<R> as Source>⟧.faults result ≡ 0 }
+    {
         ReaderSource { reader, faults: 0 }
     }
 }
@@ -44,7 +46,9 @@ pub struct WriterSink<W: Write> {
 
 impl<W: Write> WriterSink<W> {
     /// A sink over this writer, with no fault so far.
-    pub fn new(writer: W) -> WriterSink<W> {
+    pub fn new(writer: W) -> WriterSink<W>
+        ensures { ⟦<WriterSink<W> as Sink>⟧.faults result ≡ 0 }
+    {
         WriterSink { writer, faults: 0 }
     }
 }

@@ -1,7 +1,7 @@
 //! Sources and sinks of bytes.
-ghost use Rattle.std.specs.Prelude.{◌≡◌, ℕ, ◌≤◌, ◌<◌, ◌++◌, List, [], Some, Option, IfOk, OnOk, OnErr, length, take, drop};
-ghost use Rattle.std.specs.Option.{option_map};
+ghost use Rattle.std.specs.Prelude.{◌≡◌, ℕ, ◌≤◌, ◌<◌, List, Option, IfOk, OnOk, OnErr, length, take};
 ghost use Rattle.cw_types.specs.Faults.{Rose};
+ghost use Rattle.cw_io.specs.Told.{with_front, with_back, IsAtEnd};
 ghost use Rattle.cw_io.specs.Written.{IsWrittenInPart};
 
 /// A call to the outside failed. Its object's count of faults rose.
@@ -20,8 +20,8 @@ pub trait Source {
     /// does it read none into a piece that isn't empty.
     fn read(&mut self, into: &mut [u8]) -> Result<usize, Failed>
         ensures fits { IfOk result (λ n. n ≤ length into.old) }
-        ensures taken { IfOk result (λ n. left self.old ≡ option_map (λ rest. take n into.new ++ rest) (left self.new)) }
-        ensures at_end { result ≡ Ok 0 → 0 < length into.old → (bytes : List ℕ) → left self.old ≡ Some bytes → bytes ≡ [] }
+        ensures taken { IfOk result (λ n. left self.old ≡ with_front (take n into.new) (left self.new)) }
+        ensures at_end { result ≡ Ok 0 → 0 < length into.old → IsAtEnd (left self.old) }
         ensures kept { OnErr result (left self.new ≡ left self.old) }
         ensures later { faults self.old ≤ faults self.new }
         ensures rose { OnErr result (Rose (faults self.old) (faults self.new)) };
@@ -39,7 +39,7 @@ pub trait Sink {
     fn write(&mut self, from: &[u8]) -> Result<usize, Failed>
         ensures fits { IfOk result (λ n. n ≤ length from.now) }
         ensures some { IfOk result (λ n. 0 < length from.now → 0 < n) }
-        ensures added { IfOk result (λ n. held self.new ≡ option_map (λ bytes. bytes ++ take n from.now) (held self.old)) }
+        ensures added { IfOk result (λ n. held self.new ≡ with_back (take n from.now) (held self.old)) }
         ensures kept { OnErr result (held self.new ≡ held self.old) }
         ensures later { faults self.old ≤ faults self.new }
         ensures rose { OnErr result (Rose (faults self.old) (faults self.new)) };
@@ -48,7 +48,7 @@ pub trait Sink {
 /// Writes all of the bytes, in as many calls as the sink wants. Where a call fails, some first part of
 /// the bytes was written.
 pub fn write_all<O: Sink>(output: &mut O, bytes: &[u8]) -> Result<(), Failed>
-    ensures whole { OnOk result (O.held output.new ≡ option_map (λ before. before ++ bytes.now) (O.held output.old)) }
+    ensures whole { OnOk result (O.held output.new ≡ with_back bytes.now (O.held output.old)) }
     ensures in_part { OnErr result (IsWrittenInPart bytes.now (O.held output.old) (O.held output.new)) }
     ensures later { O.faults output.old ≤ O.faults output.new }
     ensures rose { OnErr result (Rose (O.faults output.old) (O.faults output.new)) }

@@ -14,6 +14,7 @@ use Rattle.cw_types.specs.declared.ids.Tid.TheVariants.{Lead, Task, Raw as RawId
 use Rattle.cw_types.specs.declared.ids.Tag.{Tag}
 use Rattle.cw_types.specs.declared.ids.PartKey.{PartKey}
 use Rattle.cw_types.specs.declared.ids.PartKey.TheVariants.{Raw, File, Seq, Sink}
+use Rattle.cw_types.specs.PartOrder.{part_ties}
 use Rattle.cw_types.specs.Same.{same_tid, same_tag, same_part, tid_order, tag_order, part_order, tid_eq, tag_eq, part_eq}
 
 never : {P : Type 0} → (P → ⊥) → Decides false P
@@ -110,24 +111,6 @@ tag_at a b =
     (both (nat_cmp a.epoch.0 b.epoch.0) (tid_order a.tid b.tid) (a.epoch.0 == b.epoch.0) (same_tid a.tid b.tid) (is_eq-nat_cmp a.epoch.0 b.epoch.0) (tid_at a.tid b.tid))
     ∙ turned (same_tid a.tid b.tid) (a.epoch.0 == b.epoch.0) (a.number == b.number)
 
-pub part_at : (a b : PartKey) → is_at (part_order a) b ≡ same_part a b
-part_at (Raw a) (Raw b) = is_eq-nat_cmp a b
-part_at (Raw a) (File b g) = refl
-part_at (Raw a) (Seq b g) = refl
-part_at (Raw a) (Sink b g) = refl
-part_at (File a f) (Raw b) = refl
-part_at (File a f) (File b g) = both (slice_cmp nat_cmp a b) (slice_cmp nat_cmp f g) (bytes_eq a b) (bytes_eq f g) (is_eq-slice_cmp a b) (is_eq-slice_cmp f g)
-part_at (File a f) (Seq b g) = refl
-part_at (File a f) (Sink b g) = refl
-part_at (Seq a f) (Raw b) = refl
-part_at (Seq a f) (File b g) = refl
-part_at (Seq a f) (Seq b g) = both (slice_cmp nat_cmp a b) (nat_cmp f g) (bytes_eq a b) (f == g) (is_eq-slice_cmp a b) (is_eq-nat_cmp f g)
-part_at (Seq a f) (Sink b g) = refl
-part_at (Sink a f) (Raw b) = refl
-part_at (Sink a f) (File b g) = refl
-part_at (Sink a f) (Seq b g) = refl
-part_at (Sink a f) (Sink b g) = both (slice_cmp nat_cmp a b) (slice_cmp nat_cmp f g) (bytes_eq a b) (bytes_eq f g) (is_eq-slice_cmp a b) (is_eq-slice_cmp f g)
-
 -- sameness in the other direction
 pub same_tid-flip : (a b : Tid) → same_tid a b ≡ same_tid b a
 same_tid-flip a b = same_from_decides (same_tid a b) (same_tid b a) (same_tid-Decides a b) (Decides-like (same_tid b a) sym sym (same_tid-Decides b a))
@@ -171,3 +154,7 @@ part_eq_is (Sink a f) (Sink b g) = refl
 pub tag_eq_is : (a b : Tag) → tag_eq a b ≡ same_tag a b
 tag_eq_is a b =
     ap (λ (t : Bool). (a.number == b.number) && ((a.epoch.0 == b.epoch.0) && t)) (tid_eq_is a.tid b.tid) ∙ turned (same_tid a.tid b.tid) (a.epoch.0 == b.epoch.0) (a.number == b.number)
+
+-- so is the order of parts
+pub part_at : (a b : PartKey) → is_at (part_order a) b ≡ same_part a b
+part_at a b = sym (part_ties a b) ∙ part_eq_is a b

@@ -4,6 +4,7 @@ pub mod Order
 pub mod Text
 pub mod Decimal
 pub mod Faults
+pub mod PartOrder
 pub mod Same
 pub mod Verdict
 pub mod Task

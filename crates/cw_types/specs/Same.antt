@@ -9,7 +9,7 @@ use Rattle.cw_types.specs.declared.ids.PartKey.{PartKey}
 use Rattle.cw_types.specs.declared.ids.PartKey.TheVariants.{Raw, File, Seq, Sink}
 use Rattle.cw_types.specs.contracts.ids.TidOrd.TheImpl as tid_ord
 use Rattle.cw_types.specs.contracts.ids.TagOrd.TheImpl as tag_ord
-use Rattle.cw_types.specs.contracts.ids.PartKeyOrd.TheImpl as part_ord
+use Rattle.cw_types.specs.PartOrder.{part_cmp}
 use Rattle.cw_types.specs.contracts.ids.TidPartialEq.TheImpl as tid_partial_eq
 use Rattle.cw_types.specs.contracts.ids.TagPartialEq.TheImpl as tag_partial_eq
 use Rattle.cw_types.specs.contracts.ids.PartKeyPartialEq.TheImpl as part_partial_eq
@@ -48,7 +48,7 @@ abbrev pub tag_order : Tag → Tag → Ordering
 tag_order = tag_ord.cmp-value.it
 
 abbrev pub part_order : PartKey → PartKey → Ordering
-part_order = part_ord.cmp-value.it
+part_order = part_cmp
 
 -- their tests as keys of a table by hashes
 abbrev pub tid_eq : Tid → Tid → Bool

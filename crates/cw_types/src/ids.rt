@@ -132,7 +132,7 @@ impl Tag {
 }
 
 /// What offsets are kept of: a partition of a source, or a topic of a sink.
-#[derive(Debug, PartialEq, Eq, PartialOrd, Ord, Hash, Drop)]
+#[derive(Debug, PartialEq, Eq, Hash, Drop)]
 pub enum PartKey {
     /// A part of a script, by its number.
     Raw(u32),

@@ -10,6 +10,7 @@ mod ids;
 mod listed;
 mod logs;
 mod name;
+mod part_order;
 mod past;
 mod verdict;
 
