@@ -1,4 +1,4 @@
-use Rattle.std.proofs.Common.{◌≡◌, ℕ, ◌-◌, ◌^◌, List, [], ◌∷◌, ◌++◌, ◌==◌, Bool, true, false, cond, Option, None, Some, Ok, codes, decimal, refl, sym, ap, subst, inl, inr, ◌∙◌, append_assoc, arith, bytes_eq}
+use Rattle.std.proofs.Common.{◌≡◌, ℕ, ◌-◌, ◌^◌, List, [], ◌∷◌, ◌++◌, ◌==◌, Bool, true, false, cond, Option, None, Some, Ok, ok_or, codes, decimal, refl, sym, ap, subst, inl, inr, ◌∙◌, append_assoc, arith, bytes_eq}
 use Rattle.std.specs.List.{AllByRecursion, list_any, find, flat_map}
 use Rattle.std.proofs.lemmas.List.{append-nil}
 use Rattle.std.proofs.lemmas.Grind.{flat_map-append}
@@ -6,7 +6,7 @@ use Rattle.std.proofs.lemmas.Bool.Decides.{nat_tests}
 use Rattle.cw_types.specs.declared.logs.LogName.{LogName}
 use Rattle.cw_types.specs.declared.logs.LogName.TheVariants.{Config, Offsets, Status}
 use Rattle.cw_types.specs.Decimal.{number_of}
-use Rattle.cw_types.specs.Name.{name_fault}
+use Rattle.cw_types.specs.Name.{name_fault, name_of}
 use Rattle.cw_types.proofs.Decimals.{number_only}
 use Rattle.cw_script.specs.declared.directive.PartEnd.{PartEnd}
 use Rattle.cw_script.specs.declared.directive.Directive.{Directive}
@@ -15,12 +15,12 @@ use Rattle.cw_script.specs.declared.fault.LineKind.TheVariants.{Number, BadName}
 use Rattle.cw_script.specs.Words.{words, joined}
 use Rattle.cw_script.specs.Pairs.{pairs_onto, pairs_of, add_pair}
 use Rattle.cw_script.specs.Table.{Place, number32, number64, limit, name, log, text, End, nothing, pairs, body, ValueOf, Maker, Row, table}
-use Rattle.cw_script.specs.Lines.{limit_of, name_of, log_of, or_fault, value_of, fits, read, said_by, directive_of, some_directive, line_of}
+use Rattle.cw_script.specs.Lines.{limit_of, log_of, value_of, fits, read, said_by, directive_of, some_directive, line_of}
 use Rattle.cw_script.specs.Spelling.{pair_words, log_text, IsSpelling}
 use Rattle.cw_script.proofs.PairLemmas.{none_onto}
 use Rattle.cw_script.proofs.WordLemmas.{joined-words}
 use Rattle.cw_script.proofs.TableLemmas.{bytes_are}
-use Rattle.cw_script.proofs.Sayable.{or_fault_Ok, after_Ok, name_range, Ok_same, if_new, some_or_none, if_fits, some_Ok}
+use Rattle.cw_script.proofs.Sayable.{ok_or_Ok, after_Ok, name_range, Ok_same, if_new, some_or_none, if_fits, some_Ok}
 
 -- the word of a value
 abbrev word_of : (place : Place) → ValueOf place → List ℕ
@@ -49,12 +49,12 @@ log_cases false false true w l f g h e = let is : Status ≡ l = cc in h refl �
 log_cases false false false w l f g h e = absurd (cc)
 
 word_is : (place : Place) (w : List ℕ) (v : ValueOf place) → value_of place w ≡ Ok v → w ≡ word_of place v
-word_is number32 w v e = decimal_32 w v (or_fault_Ok Number (number_of (2 ^ 32 - 1) w) v e)
-word_is number64 w v e = decimal_64 w v (or_fault_Ok Number (number_of (2 ^ 64 - 1) w) v e)
-word_is limit w v e = decimal_64 w v (limit_same (number_of (2 ^ 64 - 1) w) v (or_fault_Ok Number (limit_of (number_of (2 ^ 64 - 1) w)) v e))
-word_is name w v e = (name_range w (name_fault w) v (or_fault_Ok BadName (name_of w (name_fault w)) v e)).1
+word_is number32 w v e = decimal_32 w v (ok_or_Ok Number (number_of (2 ^ 32 - 1) w) v e)
+word_is number64 w v e = decimal_64 w v (ok_or_Ok Number (number_of (2 ^ 64 - 1) w) v e)
+word_is limit w v e = decimal_64 w v (limit_same (number_of (2 ^ 64 - 1) w) v (ok_or_Ok Number (limit_of (number_of (2 ^ 64 - 1) w)) v e))
+word_is name w v e = (name_range w (name_fault w) v (ok_or_Ok BadName (name_of w) v e)).1
 word_is log w v e = log_cases (bytes_eq w (codes "config")) (bytes_eq w (codes "offsets")) (bytes_eq w (codes "status")) w v
-    (bytes_are w (codes "config")) (bytes_are w (codes "offsets")) (bytes_are w (codes "status")) (or_fault_Ok BadName (log_of w) v e)
+    (bytes_are w (codes "config")) (bytes_are w (codes "offsets")) (bytes_are w (codes "status")) (ok_or_Ok BadName (log_of w) v e)
 word_is text w v e = Ok_same w v e
 
 -- one more pair has the words that it was read from
@@ -98,8 +98,8 @@ read_spells before [] nothing make [] d fit makes e =
     subst (P (before ++ [])) (Ok_same make d e) (subst (λ ws. P ws make) (sym (append-nil before)) makes)
 read_spells before [] nothing make (w ∷ ws) d fit makes e = absurd (cc)
 read_spells before [] pairs make ws d fit makes e =
-    let got = after_Ok (or_fault Number (pairs_of ws)) (λ found. Ok (make found)) d e in
-    let same : flat_map pair_words got.0 ≡ ws = onto_words [] got.0 ws (or_fault_Ok Number (pairs_of ws) got.0 got.1) in
+    let got = after_Ok (ok_or (pairs_of ws) Number) (λ found. Ok (make found)) d e in
+    let same : flat_map pair_words got.0 ≡ ws = onto_words [] got.0 ws (ok_or_Ok Number (pairs_of ws) got.0 got.1) in
     let P : List (List ℕ) → Directive → Type 0 = λ vs x. IsSpelling (joined (before ++ vs)) x in
     subst (P ws) (Ok_same (make got.0) d got.2) (subst (λ vs. P vs (make got.0)) same (makes got.0))
 read_spells before [] body make ws d fit makes e =

@@ -1,20 +1,21 @@
-use Rattle.std.proofs.Common.{◌≡◌, ℕ, ◌+◌, ◌-◌, ◌*◌, ◌^◌, ◌<◌, ◌≤◌, List, [], ◌∷◌, ◌++◌, length, map, nat_eq, ◌==◌, ◌||◌, Bool, true, false, cond, Option, None, Some, Result, Ok, Err, codes, refl, sym, ap, subst, inl, inr, ◌⊎◌, ◌∙◌, length-append, arith, bytes_eq}
+use Rattle.std.proofs.Common.{◌≡◌, ℕ, ◌+◌, ◌-◌, ◌*◌, ◌^◌, ◌<◌, ◌≤◌, List, [], ◌∷◌, ◌++◌, length, map, nat_eq, ◌==◌, ◌||◌, Bool, true, false, cond, Option, None, Some, Result, Ok, Err, ok_or, codes, refl, sym, ap, subst, inl, inr, ◌⊎◌, ◌∙◌, length-append, arith, bytes_eq}
 use Rattle.std.specs.List.{AllByRecursion, list_any, find, IsDistinct}
 use Rattle.std.proofs.lemmas.Bool.Decides.{nat_tests}
 use Rattle.cw_types.specs.declared.logs.LogName.{LogName}
 use Rattle.cw_types.specs.declared.logs.LogName.TheVariants.{Config, Offsets, Status}
 use Rattle.cw_types.specs.declared.name.NameFault.{NameFault}
 use Rattle.cw_types.specs.Decimal.{number_of}
-use Rattle.cw_types.specs.Name.{name_fault, IsName}
+use Rattle.cw_types.specs.Name.{name_fault, unless_fault, name_of, IsName}
 use Rattle.cw_types.proofs.Decimals.{number_only}
 use Rattle.cw_script.specs.declared.directive.PartEnd.{PartEnd}
 use Rattle.cw_script.specs.declared.directive.Directive.{Directive}
 use Rattle.cw_script.specs.declared.fault.LineKind.{LineKind}
 use Rattle.cw_script.specs.declared.fault.LineKind.TheVariants.{Count, Number, BadName}
-use Rattle.cw_script.specs.Words.{words, onto_first, joined}
+use Rattle.cw_types.specs.Pieces.{onto_first}
+use Rattle.cw_script.specs.Words.{words, joined}
 use Rattle.cw_script.specs.Pairs.{is_pair_count, pairs_onto, pairs_of, add_pair, ArePairs}
 use Rattle.cw_script.specs.Table.{Place, number32, number64, limit, name, log, text, End, nothing, pairs, body, ValueOf, Maker, Row, table}
-use Rattle.cw_script.specs.Lines.{or_fault, after, limit_of, name_of, log_of, value_of, fits, read, said_by, directive_of, some_directive, line_of}
+use Rattle.cw_script.specs.Lines.{after, limit_of, log_of, value_of, fits, read, said_by, directive_of, some_directive, line_of}
 use Rattle.cw_script.specs.Spelling.{PairFits, IsWord, IsCompacted, IsSayable}
 use Rattle.cw_script.proofs.PairLemmas.{none_onto}
 
@@ -28,9 +29,9 @@ all_words [] = (tt, tt)
 all_words (c ∷ cs) = elim (c == 32) as (λ b. c == 32 ≡ b → AllByRecursion IsWord (cond b ([] ∷ words cs) (onto_first c (words cs))))
     [ true ↦ λ is. (tt, all_words cs) | false ↦ λ is. onto_first_words c (words cs) is (all_words cs) ] refl
 
-pub or_fault_Ok : {A : Type 0} (kind : LineKind) (o : Option A) (x : A) → or_fault kind o ≡ Ok x → o ≡ Some x
-or_fault_Ok kind None x e = absurd (cc)
-or_fault_Ok {A} kind (Some y) x e = cc
+pub ok_or_Ok : {A : Type 0} (kind : LineKind) (o : Option A) (x : A) → ok_or o kind ≡ Ok x → o ≡ Some x
+ok_or_Ok kind None x e = absurd (cc)
+ok_or_Ok {A} kind (Some y) x e = cc
 
 pub after_Ok : {A B : Type 0} (r : Result A LineKind) (next : A → Result B LineKind) (y : B) → after r next ≡ Ok y → (x : A) × (r ≡ Ok x) × (next x ≡ Ok y)
 after_Ok (Ok x) next y e = (x, refl, e)
@@ -49,7 +50,7 @@ limit_range : (o : Option ℕ) (n : ℕ) → limit_of o ≡ Some n → (1 ≤ n)
 limit_range None n e = absurd (cc)
 limit_range (Some m) n e = grind (arith, nat_tests)
 
-pub name_range : (bytes : List ℕ) (o : Option NameFault) (v : List ℕ) → name_of bytes o ≡ Some v → (o ≡ None) × (bytes ≡ v)
+pub name_range : (bytes : List ℕ) (o : Option NameFault) (v : List ℕ) → unless_fault bytes o ≡ Some v → (o ≡ None) × (bytes ≡ v)
 name_range bytes None v e = (refl, cc)
 name_range bytes (Some f) v e = absurd (cc)
 
@@ -66,11 +67,11 @@ pub Ok_same : {A : Type 0} (x y : A) → ◌≡◌ {A = Result A LineKind} (Ok x
 Ok_same x y e = cc
 
 value_in_range : (place : Place) (w : List ℕ) (v : ValueOf place) → IsWord w → value_of place w ≡ Ok v → InRange place v
-value_in_range number32 w v h e = omega (arith, (number_only (2 ^ 32 - 1) v w (omega arith) (or_fault_Ok Number (number_of (2 ^ 32 - 1) w) v e)).1)
-value_in_range number64 w v h e = omega (arith, (number_only (2 ^ 64 - 1) v w (omega arith) (or_fault_Ok Number (number_of (2 ^ 64 - 1) w) v e)).1)
-value_in_range limit w v h e = limit_range (number_of (2 ^ 64 - 1) w) v (or_fault_Ok Number (limit_of (number_of (2 ^ 64 - 1) w)) v e)
-value_in_range name w v h e = let parts = name_range w (name_fault w) v (or_fault_Ok BadName (name_of w (name_fault w)) v e) in subst IsName parts.1 parts.0
-value_in_range log w v h e = log_range w v (or_fault_Ok BadName (log_of w) v e)
+value_in_range number32 w v h e = omega (arith, (number_only (2 ^ 32 - 1) v w (omega arith) (ok_or_Ok Number (number_of (2 ^ 32 - 1) w) v e)).1)
+value_in_range number64 w v h e = omega (arith, (number_only (2 ^ 64 - 1) v w (omega arith) (ok_or_Ok Number (number_of (2 ^ 64 - 1) w) v e)).1)
+value_in_range limit w v h e = limit_range (number_of (2 ^ 64 - 1) w) v (ok_or_Ok Number (limit_of (number_of (2 ^ 64 - 1) w)) v e)
+value_in_range name w v h e = let parts = name_range w (name_fault w) v (ok_or_Ok BadName (name_of w) v e) in subst IsName parts.1 parts.0
+value_in_range log w v h e = log_range w v (ok_or_Ok BadName (log_of w) v e)
 value_in_range text w v h e = subst IsWord (Ok_same w v e) h
 
 -- no pair found has the part
@@ -168,8 +169,8 @@ read_sayable : (places : List Place) (end : End) (make : Maker places end) (ws :
     → MakesSayable places end make → read places end make ws ≡ Ok d → IsSayable d
 read_sayable [] nothing make ws d words fit makes e = subst IsSayable (Ok_same make d e) makes
 read_sayable [] pairs make ws d words fit makes e =
-    let got = after_Ok (or_fault Number (pairs_of ws)) (λ found. Ok (make found)) d e in
-    let read = pairs_read ws got.0 fit (or_fault_Ok Number (pairs_of ws) got.0 got.1) in
+    let got = after_Ok (ok_or (pairs_of ws) Number) (λ found. Ok (make found)) d e in
+    let read = pairs_read ws got.0 fit (ok_or_Ok Number (pairs_of ws) got.0 got.1) in
     subst IsSayable (Ok_same (make got.0) d got.2) (makes got.0 read.0 read.1)
 read_sayable [] body make ws d words fit makes e = subst IsSayable (Ok_same (make (joined ws)) d e) (makes (joined ws))
 read_sayable (place ∷ places) end make [] d words fit makes e = absurd (cc)

@@ -1,9 +1,8 @@
 -- What a line of a script says, and the first fault of a line that says nothing.
-use Rattle.std.specs.Prelude.{ℕ, ◌==◌, ◌^◌, ◌-◌, Bool, true, false, List, [], ◌∷◌, length, codes, nat_lt, Option, Some, None, Result, Ok, Err, bytes_eq, if◌then◌else◌}
+use Rattle.std.specs.Prelude.{ℕ, ◌==◌, ◌^◌, ◌-◌, Bool, true, false, List, [], ◌∷◌, length, codes, nat_lt, Option, Some, None, Result, Ok, Err, ok_or, bytes_eq, if◌then◌else◌}
 use Rattle.std.specs.List.{find}
 use Rattle.cw_types.specs.Decimal.{number_of}
-use Rattle.cw_types.specs.Name.{name_fault}
-use Rattle.cw_types.specs.declared.name.NameFault.{NameFault}
+use Rattle.cw_types.specs.Name.{name_of}
 use Rattle.cw_types.specs.declared.logs.LogName.{LogName}
 use Rattle.cw_types.specs.declared.logs.LogName.TheVariants.{Config, Offsets, Status}
 use Rattle.cw_script.specs.declared.directive.Directive.{Directive}
@@ -12,11 +11,6 @@ use Rattle.cw_script.specs.declared.fault.LineKind.TheVariants.{NoWord, Count, N
 use Rattle.cw_script.specs.Words.{words, joined}
 use Rattle.cw_script.specs.Pairs.{is_pair_count, pairs_of}
 use Rattle.cw_script.specs.Table.{Place, number32, number64, limit, name, log, text, End, nothing, pairs, body, ValueOf, Maker, Row, table}
-
--- a value, or the fault of a word that isn't one
-abbrev pub or_fault : {A : Type 0} → LineKind → Option A → Result A LineKind
-or_fault kind None = Err kind
-or_fault kind (Some x) = Ok x
 
 -- what is made of a value; the first fault stays
 abbrev pub after : {A B : Type 0} → Result A LineKind → (A → Result B LineKind) → Result B LineKind
@@ -28,11 +22,6 @@ abbrev pub limit_of : Option ℕ → Option ℕ
 limit_of None = None
 limit_of (Some n) = if n == 0 then None else if nat_lt 1000000 n then None else Some n
 
--- a name is its bytes, where they have no fault
-abbrev pub name_of : List ℕ → Option NameFault → Option (List ℕ)
-name_of bytes None = Some bytes
-name_of bytes (Some fault) = None
-
 -- the logs that are compacted
 abbrev pub log_of : List ℕ → Option LogName
 log_of word =
@@ -42,11 +31,11 @@ log_of word =
 
 -- what a word says at its place
 abbrev pub value_of : (place : Place) → List ℕ → Result (ValueOf place) LineKind
-value_of number32 word = or_fault Number (number_of (2 ^ 32 - 1) word)
-value_of number64 word = or_fault Number (number_of (2 ^ 64 - 1) word)
-value_of limit word = or_fault Number (limit_of (number_of (2 ^ 64 - 1) word))
-value_of name word = or_fault BadName (name_of word (name_fault word))
-value_of log word = or_fault BadName (log_of word)
+value_of number32 word = ok_or (number_of (2 ^ 32 - 1) word) Number
+value_of number64 word = ok_or (number_of (2 ^ 64 - 1) word) Number
+value_of limit word = ok_or (limit_of (number_of (2 ^ 64 - 1) word)) Number
+value_of name word = ok_or (name_of word) BadName
+value_of log word = ok_or (log_of word) BadName
 value_of text word = Ok word
 
 -- the value of the one word that may stand there
@@ -67,7 +56,7 @@ fits (place ∷ places) end (w ∷ ws) = fits places end ws
 -- what the words say, judged from left to right
 abbrev pub read : (places : List Place) (end : End) → Maker places end → List (List ℕ) → Result Directive LineKind
 read [] nothing make ws = Ok make
-read [] pairs make ws = after (or_fault Number (pairs_of ws)) (λ found. Ok (make found))
+read [] pairs make ws = after (ok_or (pairs_of ws) Number) (λ found. Ok (make found))
 read [] body make ws = Ok (make (joined ws))
 read (place ∷ places) end make [] = Err Count
 read (place ∷ places) end make (w ∷ ws) = after (value_of place w) (λ value. read places end (make value) ws)

@@ -16,12 +16,16 @@ add_pair found (Some part) None = None
 add_pair found (Some part) (Some to) =
     if list_any (λ pair. pair.part == part) found then None else Some (found ++ record { part = part; to = to } ∷ [])
 
+-- one more pair, of the words that spell its part and its end
+abbrev pub pair_onto : List PartEnd → List ℕ → List ℕ → Option (List PartEnd)
+pair_onto found part to = add_pair found (number_of (2 ^ 32 - 1) part) (number_of (2 ^ 64 - 1) to)
+
 -- parts and ends in turn, behind the pairs found
 abbrev pub pairs_onto : Option (List PartEnd) → List (List ℕ) → Option (List PartEnd)
 pairs_onto found [] = found
 pairs_onto found (part ∷ []) = None
 pairs_onto found (part ∷ to ∷ ws) =
-    pairs_onto (option_and_then (λ pairs. add_pair pairs (number_of (2 ^ 32 - 1) part) (number_of (2 ^ 64 - 1) to)) found) ws
+    pairs_onto (option_and_then (λ pairs. pair_onto pairs part to) found) ws
 
 -- the pairs that words spell, each part once
 abbrev pub pairs_of : List (List ℕ) → Option (List PartEnd)

@@ -1,16 +1,11 @@
 -- A line is words, each parted from the next by one space. The language is this project's own.
-use Rattle.std.specs.Prelude.{ℕ, ◌+◌, ◌==◌, List, [], ◌∷◌, ◌++◌, length, Option, Some, None, if◌then◌else◌}
+use Rattle.std.specs.Prelude.{ℕ, ◌+◌, List, [], ◌∷◌, ◌++◌, length, Option, Some, None}
 use Rattle.std.specs.Borrow.{Bor}
-
--- a byte in front of the first word
-abbrev pub onto_first : ℕ → List (List ℕ) → List (List ℕ)
-onto_first c [] = (c ∷ []) ∷ []
-onto_first c (w ∷ ws) = (c ∷ w) ∷ ws
+use Rattle.cw_types.specs.Pieces.{pieces}
 
 -- the words of a text: one more than it has spaces, so that two spaces hold an empty word
 abbrev pub words : List ℕ → List (List ℕ)
-words [] = [] ∷ []
-words (c ∷ cs) = if c == 32 then [] ∷ words cs else onto_first c (words cs)
+words text = pieces 32 text
 
 -- the words behind a space, if there is one
 abbrev pub words_behind : Option (List ℕ) → List (List ℕ)

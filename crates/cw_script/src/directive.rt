@@ -1,6 +1,8 @@
 //! What a line of a script asks for.
+ghost use Rattle.std.specs.Prelude.{◌≡◌, IfOk};
 
 use cw_types::{Listed, LogName, Name};
+use std::alloc::AllocError;
 
 /// A part of a producer's stream, and the position up to which a commit moves it.
 #[derive(Clone, Copy, Debug, PartialEq, Eq, Drop)]
@@ -67,4 +69,47 @@ pub enum Directive {
     },
     /// `compact LOG`: the log, `config`, `offsets` or `status`, is compacted.
     Compact(LogName),
+}
+
+impl Directive {
+    /// A copy.
+    pub fn copy(&self) -> Result<Self, AllocError>
+        ensures { IfOk result (λ directive. directive ≡ self.now) }
+    {
+        match self {
+            Directive::Init(id) => Ok(Directive::Init(*id)),
+            Directive::Commit { id, epoch, pairs } => Ok(Directive::Commit {
+                id: *id,
+                epoch: *epoch,
+                pairs: pairs.copy()?,
+            }),
+            Directive::Spawn => Ok(Directive::Spawn),
+            Directive::Kill(worker) => Ok(Directive::Kill(*worker)),
+            Directive::Deaf(worker) => Ok(Directive::Deaf(*worker)),
+            Directive::Hear(worker) => Ok(Directive::Hear(*worker)),
+            Directive::Expire(worker) => Ok(Directive::Expire(*worker)),
+            Directive::Clock(moment) => Ok(Directive::Clock(*moment)),
+            Directive::Tick(worker) => Ok(Directive::Tick(*worker)),
+            Directive::Step(instance) => Ok(Directive::Step(*instance)),
+            Directive::Settle(most) => Ok(Directive::Settle(*most)),
+            Directive::Rest {
+                worker,
+                method,
+                target,
+                body,
+            } => Ok(Directive::Rest {
+                worker: *worker,
+                method: method.copy()?,
+                target: target.copy()?,
+                body: body.copy()?,
+            }),
+            Directive::Held(worker) => Ok(Directive::Held(*worker)),
+            Directive::Member(worker) => Ok(Directive::Member(*worker)),
+            Directive::Take { topic, from } => Ok(Directive::Take {
+                topic: topic.copy()?,
+                from: *from,
+            }),
+            Directive::Compact(log) => Ok(Directive::Compact(*log)),
+        }
+    }
 }

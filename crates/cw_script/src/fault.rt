@@ -2,6 +2,7 @@
 ghost use Rattle.std.specs.Prelude.{◌≡◌};
 
 use std::alloc::AllocError;
+use std::error::Error;
 use std::fmt;
 
 /// Why a line asks for nothing, the first that holds in this order: its word, the number of its words,
@@ -40,10 +41,13 @@ impl fmt::Display for LineKind {
     }
 }
 
+impl Error for LineKind {}
+
 /// Why a line wasn't read.
-#[derive(Debug, Drop)]
+#[derive(Debug, Drop, thiserror::Error)]
 pub enum ScriptFault {
     /// The line is no directive.
+    #[error("line {number}: {kind}")]
     BadLine {
         /// The line's number, as the caller gave it.
         number: u64,
@@ -51,6 +55,7 @@ pub enum ScriptFault {
         kind: LineKind,
     },
     /// There was no memory for what the line says.
+    #[error("out of memory")]
     Memory,
 }
 

@@ -1,10 +1,9 @@
 //! The reading of a line.
-ghost use Rattle.std.specs.Prelude.{◌≡◌, ◌≢◌, ◌==◌, ◌++◌, ◌∷◌, ◌<◌, ◌≤◌, ◌-◌, ◌^◌, [], Ok, map, length, drop, codes, IfOk, IfErr, IfSome, MatchOption};
+ghost use Rattle.std.specs.Prelude.{◌≡◌, ◌≢◌, ◌==◌, ◌++◌, ◌∷◌, ◌<◌, ◌≤◌, [], Ok, map, length, drop, codes, IfOk, IfErr, IfSome, MatchOption};
 ghost use Rattle.std.specs.Option.{option_map};
 ghost use Rattle.std.specs.List.{list_any};
-ghost use Rattle.cw_types.specs.Decimal.{number_of};
 ghost use Rattle.cw_script.specs.Words.{words, words_behind, joined, now_of};
-ghost use Rattle.cw_script.specs.Pairs.{add_pair, pairs_of};
+ghost use Rattle.cw_script.specs.Pairs.{pair_onto, pairs_of};
 ghost use Rattle.cw_script.specs.Table.{number32, number64, limit, log, name};
 ghost use Rattle.cw_script.specs.Lines.{only, value_of, directive_of, line_of};
 ghost use Rattle.cw_script.specs.Spelling.{IsSayable};
@@ -13,7 +12,7 @@ ghost use Rattle.cw_script.specs.Faults.{TellsFault};
 use crate::directive::{Directive, PartEnd};
 use crate::fault::{LineKind, ScriptFault};
 use crate::words::{cut, next_word, words_of};
-use cw_types::{Listed, LogName, Name, NameFault, read_u32, read_u64};
+use cw_types::{Listed, LogName, Name, read_u32, read_u64};
 use std::alloc::{AllocError, Global};
 
 /// What a line of a script says, its `\n` left out. An empty line and one that begins with `#` are passed
@@ -172,11 +171,7 @@ fn spawn_of(args: &[&[u8]]) -> Result<Directive, LineKind>
 fn name_of(alloc: Global, word: &[u8]) -> Result<Result<Name, LineKind>, AllocError>
     ensures { IfOk result (λ found. found ≡ value_of name word.now) }
 {
-    match Name::read(alloc, word) {
-        Ok(name) => Ok(Ok(name)),
-        Err(NameFault::Memory) => Err(AllocError),
-        Err(_) => Ok(Err(LineKind::BadName)),
-    }
+    Ok(Name::from_bytes(alloc, word)?.ok_or(LineKind::BadName))
 }
 
 fn take_of(alloc: Global, args: &[&[u8]]) -> Result<Result<Directive, LineKind>, AllocError>
@@ -203,7 +198,7 @@ fn has_part(found: &[PartEnd], part: u32) -> bool
 
 // A pair whose part isn't among those found.
 fn next_pair(found: &[PartEnd], part: &[u8], to: &[u8]) -> Option<PartEnd>
-    ensures { option_map (λ pair. found.now ++ pair ∷ []) result ≡ add_pair found.now (number_of (2 ^ 32 - 1) part.now) (number_of (2 ^ 64 - 1) to.now) }
+    ensures { option_map (λ pair. found.now ++ pair ∷ []) result ≡ pair_onto found.now part.now to.now }
 {
     let part = read_u32(part)?;
     let to = read_u64(to)?;

@@ -145,6 +145,8 @@ fn compact_line(alloc: Global, log: LogName) -> Result<Vec<u8>, AllocError>
 /// The law of lines: what a directive is spelled as is read as that directive, and what is read can be spelled.
 pub fn lines_are_directives()
     ensures again { (directive : Directive) → IsSayable directive → line_of (spelled directive) ≡ Ok (Some directive) }
-    ensures only { (line : List ℕ) (directive : Directive) → line_of line ≡ Ok (Some directive) → IsSpelling line directive }
-    ensures sayable { (line : List ℕ) (directive : Directive) → line_of line ≡ Ok (Some directive) → IsSayable directive }
+    ensures only { (line : List ℕ) (directive : Directive) → line_of line ≡ Ok (Some directive) →
+        IsSpelling line directive }
+    ensures sayable { (line : List ℕ) (directive : Directive) → line_of line ≡ Ok (Some directive) →
+        IsSayable directive }
 {}
