@@ -1,4 +1,5 @@
--- Items of a worker: connectors and tasks, which are planned apart from each other (KIP-415). When two are the same is this project's own: by kind, name and index.
+-- Items of a worker: connectors and tasks, which are planned apart from each other (KIP-415). When two are the same is
+-- this project's own: by kind, name and index.
 use Rattle.std.specs.Prelude.{Bool, true, false, List, []}
 use Rattle.std.specs.List.{list_any, filter, fold}
 use Rattle.std.specs.BTreeSet.{insert_key}

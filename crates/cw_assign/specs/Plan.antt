@@ -1,5 +1,6 @@
--- The plan of a round: what each member of the group keeps, gives up and is newly given (KIP-415, incremental cooperative rebalancing with a scheduled delay).
--- A revoked item is nobody's until the next round. The quotas and ties are this project's own.
+-- The plan of a round: what each member of the group keeps, gives up and is newly given (KIP-415, incremental
+-- cooperative rebalancing with a scheduled delay). A revoked item is nobody's until the next round. The quotas and ties
+-- are this project's own.
 use Rattle.std.specs.Prelude.{ℕ, ◌+◌, Bool, ◌&&◌, not, List, [], ◌∷◌, ◌++◌, length, take, map, nat_le, if◌then◌else◌}
 use Rattle.std.specs.List.{fold, filter, flat_map, list_all}
 use Rattle.cw_types.specs.declared.ids.Item.{Item}
@@ -27,13 +28,15 @@ own kind is_configured held = filter (λ x. is_of kind x && is_configured x) hel
 
 -- a member's number, and how many configured items of a class it holds
 abbrev pub standing_of : Kind → (Item → Bool) → Holder → Standing
-standing_of kind is_configured member = record { worker = member.worker; load = length (own kind is_configured member.held) }
+standing_of kind is_configured member =
+    record { worker = member.worker; load = length (own kind is_configured member.held) }
 
 -- what a member keeps: the first of its own items up to its quota, or all of them while a delay runs
 abbrev pub kept_of : Kind → List Holder → ℕ → (Item → Bool) → Bool → Holder → List Item
 kept_of kind members total is_configured running member =
     if running then own kind is_configured member.held else
-    take (quota total (map (standing_of kind is_configured) members) (standing_of kind is_configured member)) (own kind is_configured member.held)
+    take (quota total (map (standing_of kind is_configured) members) (standing_of kind is_configured member))
+    (own kind is_configured member.held)
 
 -- whether an item is to be given: nobody holds it, and it isn't lost while a delay runs
 abbrev pub is_free : Kind → (Item → Bool) → (Item → Bool) → Bool → Item → Bool
@@ -49,7 +52,8 @@ give (hand ∷ hands) x =
 
 -- a hand with what its member keeps
 abbrev pub first_hand : Kind → List Holder → ℕ → (Item → Bool) → Bool → Holder → Hand
-first_hand kind members total is_configured running member = record { kept = kept_of kind members total is_configured running member; fresh = [] }
+first_hand kind members total is_configured running member =
+    record { kept = kept_of kind members total is_configured running member; fresh = [] }
 
 -- the hands of a class: what is kept, and then each free item in item order
 abbrev pub hands_of : Kind → List Holder → List Item → (Item → Bool) → (Item → Bool) → (Item → Bool) → Bool → List Hand
@@ -83,5 +87,6 @@ shares_of _ _ _ = []
 -- the plan
 abbrev pub plan_of : List Holder → List Item → List Item → Bool → Plan
 plan_of members configured lost running = record {
-  shares = shares_of members (class_hands Connectors members configured lost running) (class_hands Tasks members configured lost running);
+  shares = shares_of members (class_hands Connectors members configured lost running)
+      (class_hands Tasks members configured lost running);
 }

@@ -1,4 +1,5 @@
--- How many items of a class a member may keep, so that the others get their part of them (KIP-415). The order of members is this project's own.
+-- How many items of a class a member may keep, so that the others get their part of them (KIP-415). The order of
+-- members is this project's own.
 use Rattle.std.specs.Prelude.{ℕ, ◌+◌, ◌/◌, ◌%◌, ◌==◌, Bool, true, false, List, length, nat_lt, if◌then◌else◌}
 use Rattle.std.specs.List.{count_by}
 use Rattle.cw_assign.specs.declared.standing.Standing.{Standing}

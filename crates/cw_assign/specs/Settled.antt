@@ -22,13 +22,20 @@ share_load kind share = length (of_kind kind (given_by share))
 
 -- members that hold what a plan gave them, in any order
 abbrev pub HoldWhatWasGiven : List Share → List Holder → Type 0
-HoldWhatWasGiven shares members = AllZip (λ share member. (member.worker ≡ share.worker) × IsPermutation (given_by share) member.held) shares members
+HoldWhatWasGiven shares members =
+    AllZip (λ share member. (member.worker ≡ share.worker) × IsPermutation (given_by share) member.held) shares members
 
--- members and items as they are planned: the members' numbers rise, nothing is held twice, and the configured items rise
+-- members and items as they are planned: the members' numbers rise, nothing is held twice, and the configured items
+-- rise
 pub record IsReady (members : List Holder) (configured : List Item) : Type 0 where
   pub workers : IsStrictlySortedBy nat_cmp (map (λ member. member.worker) members)
   pub apart : IsDistinct same_item (held_by members)
   pub rising : IsStrictlySortedBy item_cmp configured
+
+-- two members' loads in a class differ by at most one
+abbrev pub AreEven : Kind → List Share → Type 0
+AreEven kind shares =
+    AllByRecursion (λ share. AllByRecursion (λ other. share_load kind share ≤ share_load kind other + 1) shares) shares
 
 -- a plan with which a group has come to rest
 pub record IsSettled (configured : List Item) (plan : Plan) : Type 0 where
@@ -38,5 +45,5 @@ pub record IsSettled (configured : List Item) (plan : Plan) : Type 0 where
   pub all_given : (x : Item) → has (flat_map given_by plan.shares) x ≡ has configured x
   -- at one member alone
   pub once : IsDistinct same_item (flat_map given_by plan.shares)
-  -- two members' loads in a class differ by at most one
-  pub even : (kind : Kind) → AllByRecursion (λ share. AllByRecursion (λ other. share_load kind share ≤ share_load kind other + 1) plan.shares) plan.shares
+  -- the loads are even in each class
+  pub even : (kind : Kind) → AreEven kind plan.shares

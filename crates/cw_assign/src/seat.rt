@@ -78,8 +78,10 @@ pub(crate) fn give(seats: &mut [Seat], item: Item) -> Result<(), AllocError>
 fn least(seats: &[Seat]) -> usize
     requires { 0 < length seats.now }
     ensures within { result < length seats.now }
-    ensures least { (k : ℕ) (d : Hand) → k < length seats.now → load_of (slice_index_or seats.now result d) ≤ load_of (slice_index_or seats.now k d) }
-    ensures first { (k : ℕ) (d : Hand) → k < result → load_of (slice_index_or seats.now result d) < load_of (slice_index_or seats.now k d) }
+    ensures least { (k : ℕ) (d : Hand) → k < length seats.now →
+        load_of (slice_index_or seats.now result d) ≤ load_of (slice_index_or seats.now k d) }
+    ensures first { (k : ℕ) (d : Hand) → k < result →
+        load_of (slice_index_or seats.now result d) < load_of (slice_index_or seats.now k d) }
 {
     let mut best = 0;
     for at in 1..seats.len() {
