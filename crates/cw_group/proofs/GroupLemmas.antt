@@ -1,8 +1,8 @@
--- What is true of every group stays true: members in order, claims apart.
+-- What is true of every group stays true: members in order, claims apart, and no item twice in one.
 use Rattle.std.proofs.Common.{◌≡◌, ℕ, zero, suc, ◌<◌, ◌≤◌, ◌==◌, Bool, true, false, ◌||◌, cond, List, [], ◌∷◌, ◌++◌, length, get_or, set, map, refl, sym, ap, ◌∙◌, subst, arith, nat_lt}
 use Rattle.std.specs.List.{filter, AllZip, AllByRecursion, IsDistinct}
 use Rattle.std.proofs.lemmas.List.Folds.{list_any-append}
-use Rattle.std.proofs.lemmas.Map.Keys.{IsDistinct-head, IsDistinct-tail}
+use Rattle.std.proofs.lemmas.Map.Keys.{IsDistinct-head, IsDistinct-tail, IsDistinct-cons}
 use Rattle.std.proofs.lemmas.Bool.Decides.{nat_tests}
 use Rattle.cw_types.specs.declared.ids.Item.{Item}
 use Rattle.cw_assign.specs.declared.share.Share.{Share}
@@ -12,7 +12,7 @@ use Rattle.cw_assign.specs.Plan.{held_by}
 use Rattle.cw_assign.specs.Valid.{IsValid, fresh_in}
 use Rattle.cw_assign.proofs.ItemLemmas.{same_item-Decides}
 use Rattle.cw_group.specs.declared.member.Member.{Member}
-use Rattle.cw_group.specs.Members.{unjoined, with_member, with_shares, holders_of, claims_of, AreRising, AreApart}
+use Rattle.cw_group.specs.Members.{unjoined, with_member, with_shares, holders_of, claims_of, AreRising, AreApart, HaveNoRepeat}
 use Rattle.cw_group.specs.Places.{IsGroup}
 
 either : (a b : Bool) → (a || b) ≡ true → (a ≡ false → b ≡ true)
@@ -42,10 +42,11 @@ clash false e f = cc
 pub has-append : (xs ys : List Item) (x : Item) → has (xs ++ ys) x ≡ (has xs x || has ys x)
 has-append xs ys x = list_any-append (λ y. same_item x y) xs ys
 
--- the same number, and no new item in the claim
+-- the same number, no new item in the claim, and none twice
 pub record Shrinks (m o : Member) : Type 0 where
   pub worker : o.worker ≡ m.worker
   pub claim : (x : Item) → has o.claim x ≡ true → has m.claim x ≡ true
+  pub once : IsDistinct same_item m.claim → IsDistinct same_item o.claim
 
 above : (n : ℕ) (ms os : List Member) → AllZip Shrinks ms os → AllByRecursion (λ o. n < o.worker) ms → AllByRecursion (λ o. n < o.worker) os
 above n [] [] zips up = tt
@@ -77,11 +78,21 @@ aparts (m ∷ ms) (o ∷ os) zips apart = (
   aparts ms os zips.1 apart.1,
 )
 
+repeats : (ms os : List Member) → AllZip Shrinks ms os → HaveNoRepeat ms → HaveNoRepeat os
+repeats [] [] zips once = tt
+repeats [] (o ∷ os) zips once = elim zips [ ]
+repeats (m ∷ ms) [] zips once = elim zips [ ]
+repeats (m ∷ ms) (o ∷ os) zips once = (zips.0.once once.0, repeats ms os zips.1 once.1)
+
 pub group_shrinks : (ms os : List Member) → AllZip Shrinks ms os → IsGroup ms → IsGroup os
-group_shrinks ms os zips group = record { rising = rises ms os zips group.rising; apart = aparts ms os zips group.apart }
+group_shrinks ms os zips group = record {
+  rising = rises ms os zips group.rising;
+  apart = aparts ms os zips group.apart;
+  no_repeat = repeats ms os zips group.no_repeat;
+}
 
 same : (m : Member) → Shrinks m m
-same m = record { worker = refl; claim = λ x e. e }
+same m = record { worker = refl; claim = λ x e. e; once = λ is. is }
 
 all_same : (ms : List Member) → AllZip Shrinks ms ms
 all_same [] = tt
@@ -94,7 +105,7 @@ set_shrinks (m ∷ ms) (suc at) d o within less = (same m, set_shrinks ms at d o
 
 pub unjoined_shrink : (ms : List Member) → AllZip Shrinks ms (map unjoined ms)
 unjoined_shrink [] = tt
-unjoined_shrink (m ∷ ms) = (record { worker = refl; claim = λ x e. e }, unjoined_shrink ms)
+unjoined_shrink (m ∷ ms) = (record { worker = refl; claim = λ x e. e; once = λ is. is }, unjoined_shrink ms)
 
 pub open_group : (b : Bool) (ms : List Member) → IsGroup ms → IsGroup (cond b ms (map unjoined ms))
 open_group true ms group = group
@@ -133,8 +144,23 @@ module _ (p : Member → Bool) where
     pick true rest = (λ x is. no (has (claims_of (filter p ms)) x) (λ there. clash (has (claims_of ms) x) (kept_claims ms x there) (apart.0 x is)), rest)
     pick false rest = rest
 
+  kept_once : (ms : List Member) → HaveNoRepeat ms → HaveNoRepeat (filter p ms)
+  kept_once [] once = tt
+  kept_once (m ∷ ms) once = pick (p m) (kept_once ms once.1) where
+    pick : (b : Bool) → HaveNoRepeat (filter p ms) → HaveNoRepeat (cond b (m ∷ filter p ms) (filter p ms))
+    pick true rest = (once.0, rest)
+    pick false rest = rest
+
   pub group_kept : (ms : List Member) → IsGroup ms → IsGroup (filter p ms)
-  group_kept ms group = record { rising = kept_rise ms group.rising; apart = kept_apart ms group.apart }
+  group_kept ms group = record {
+    rising = kept_rise ms group.rising;
+    apart = kept_apart ms group.apart;
+    no_repeat = kept_once ms group.no_repeat;
+  }
+
+nothing_twice : IsDistinct same_item []
+unfolding IsDistinct
+nothing_twice = tt
 
 -- with a member that has an empty claim
 module _ (member : Member) (nothing : member.claim ≡ []) where
@@ -192,8 +218,23 @@ module _ (member : Member) (nothing : member.claim ≡ []) where
       over : nat_lt member.worker m.worker ≡ false → (member.worker == m.worker) ≡ false → m.worker < member.worker
       over e f = grind (arith, nat_tests)
 
+  empty_once : IsDistinct same_item member.claim
+  empty_once = subst (λ (c : List Item). IsDistinct same_item c) (sym nothing) nothing_twice
+
+  with_once : (ms : List Member) → HaveNoRepeat ms → HaveNoRepeat (with_member member ms)
+  with_once [] once = (empty_once, tt)
+  with_once (m ∷ ms) once = pick (nat_lt member.worker m.worker) (member.worker == m.worker) (with_once ms once.1) where
+    pick : (a b : Bool) → HaveNoRepeat (with_member member ms) → HaveNoRepeat (cond a (member ∷ m ∷ ms) (cond b (member ∷ ms) (m ∷ with_member member ms)))
+    pick true b rest = (empty_once, once)
+    pick false true rest = (empty_once, once.1)
+    pick false false rest = (once.0, rest)
+
   pub group_with : (ms : List Member) → IsGroup ms → IsGroup (with_member member ms)
-  group_with ms group = record { rising = with_rising ms group.rising; apart = with_apart ms group.apart }
+  group_with ms group = record {
+    rising = with_rising ms group.rising;
+    apart = with_apart ms group.apart;
+    no_repeat = with_once ms group.no_repeat;
+  }
 
 -- with shares of a plan that gives no held item, and none twice
 shared_above : (n : ℕ) (ms : List Member) (ss : List Share) → AllByRecursion (λ o. n < o.worker) ms → AllByRecursion (λ o. n < o.worker) (with_shares ms ss)
@@ -259,12 +300,61 @@ shared_apart (m ∷ ms) (s ∷ ss) apart unheld distinct = (
       (second (has m.claim x) (has (claims_of ms) x) (sym (has-append m.claim (claims_of ms) x) ∙ unheld x (has-append s.fresh (fresh_in ss) x ∙ left (has s.fresh x) (has (fresh_in ss) x) new)))
       (apart_by s.fresh (fresh_in ss) distinct x new)
 
+first_no : (a b : Bool) → (a || b) ≡ false → (a ≡ false) × (b ≡ false)
+first_no true b e = cc
+first_no false b e = (refl, e)
+
+none_same : (x : Item) (ys : List Item) → has ys x ≡ false → AllByRecursion (λ w. same_item x w ≡ false) ys
+none_same x [] e = tt
+none_same x (y ∷ ys) e = let parts = first_no (same_item x y) (has ys x) e in (parts.0, none_same x ys parts.1)
+
+all_append : (P : Item → Type 0) (xs ys : List Item) → AllByRecursion P xs → AllByRecursion P ys → AllByRecursion P (xs ++ ys)
+all_append P [] ys front back = back
+all_append P (x ∷ xs) ys front back = (front.0, all_append P xs ys front.1 back)
+
+-- two lists without repeats that share no item have none together
+distinct_append : (xs ys : List Item) → IsDistinct same_item xs → IsDistinct same_item ys → ((x : Item) → has xs x ≡ true → has ys x ≡ false) → IsDistinct same_item (xs ++ ys)
+distinct_append [] ys front back apart = back
+distinct_append (x ∷ xs) ys front back apart =
+    let here : has ys x ≡ false = apart x (left (same_item x x) (has xs x) ((same_item-Decides x x).1 refl)) in
+    IsDistinct-cons same_item x (xs ++ ys) (all_append (λ w. same_item x w ≡ false) xs ys (IsDistinct-head same_item x xs front) (none_same x ys here))
+    (distinct_append xs ys (IsDistinct-tail same_item x xs front) back (λ z is. apart z (right (same_item z x) (has xs z) is)))
+
+front_all : (P : Item → Type 0) (xs ys : List Item) → AllByRecursion P (xs ++ ys) → AllByRecursion P xs
+front_all P [] ys all = tt
+front_all P (x ∷ xs) ys all = (all.0, front_all P xs ys all.1)
+
+distinct_front : (xs ys : List Item) → IsDistinct same_item (xs ++ ys) → IsDistinct same_item xs
+distinct_front [] ys distinct = nothing_twice
+distinct_front (x ∷ xs) ys distinct = IsDistinct-cons same_item x xs
+    (front_all (λ w. same_item x w ≡ false) xs ys (IsDistinct-head same_item x (xs ++ ys) distinct))
+    (distinct_front xs ys (IsDistinct-tail same_item x (xs ++ ys) distinct))
+
+shared_once : (ms : List Member) (ss : List Share) → HaveNoRepeat ms → ((x : Item) → has (fresh_in ss) x ≡ true → has (claims_of ms) x ≡ false) → IsDistinct same_item (fresh_in ss) → HaveNoRepeat (with_shares ms ss)
+shared_once [] ss once unheld distinct = tt
+shared_once (m ∷ ms) [] once unheld distinct = once
+shared_once (m ∷ ms) (s ∷ ss) once unheld distinct = (
+  distinct_append m.claim s.fresh once.0 (distinct_front s.fresh (fresh_in ss) distinct) (λ x own. no (has s.fresh x) (λ new.
+      clash (has m.claim x) own (first_no (has m.claim x) (has (claims_of ms) x) (sym (has-append m.claim (claims_of ms) x) ∙ unheld x (has-append s.fresh (fresh_in ss) x ∙ left (has s.fresh x) (has (fresh_in ss) x) new))).0)),
+  shared_once ms ss once.1 (λ x is. (first_no (has m.claim x) (has (claims_of ms) x) (sym (has-append m.claim (claims_of ms) x) ∙ unheld x (has-append s.fresh (fresh_in ss) x ∙ right (has s.fresh x) (has (fresh_in ss) x) is))).1) (distinct_behind s.fresh (fresh_in ss) distinct),
+)
+
+-- nothing is in the claims twice
+claims_once : (ms : List Member) → AreApart ms → HaveNoRepeat ms → IsDistinct same_item (claims_of ms)
+claims_once [] apart once = nothing_twice
+claims_once (m ∷ ms) apart once = distinct_append m.claim (claims_of ms) once.0 (claims_once ms apart.1 once.1) apart.0
+
 held_is : (ms : List Member) → held_by (holders_of ms) ≡ claims_of ms
 held_is [] = refl
 held_is (m ∷ ms) = ap (λ (xs : List Item). m.claim ++ xs) (held_is ms)
+
+-- nothing is held twice by the members of a group
+pub held_once : (ms : List Member) → IsGroup ms → IsDistinct same_item (held_by (holders_of ms))
+held_once ms group = subst (λ (xs : List Item). IsDistinct same_item xs) (sym (held_is ms)) (claims_once ms group.apart group.no_repeat)
 
 pub group_shares : (ms : List Member) (plan : Plan) (planned lost : List Item) (running : Bool) → IsValid (holders_of ms) planned lost running plan → IsGroup ms → IsGroup (with_shares ms plan.shares)
 group_shares ms plan planned lost running valid group = record {
   rising = shared_rising ms plan.shares group.rising;
   apart = shared_apart ms plan.shares group.apart (λ x is. sym (ap (λ (xs : List Item). has xs x) (held_is ms)) ∙ valid.unheld x is) valid.apart;
+  no_repeat = shared_once ms plan.shares group.no_repeat (λ x is. sym (ap (λ (xs : List Item). has xs x) (held_is ms)) ∙ valid.unheld x is) valid.apart;
 }

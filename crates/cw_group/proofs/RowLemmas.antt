@@ -1,7 +1,7 @@
 -- What a call does, where nothing refuses it.
 use Rattle.std.proofs.Common.{◌≡◌, ℕ, zero, suc, ◌<◌, ◌==◌, Bool, true, false, not, ◌||◌, cond, List, [], ◌∷◌, length, get_or, set, map, Option, Some, None, Ok, Err, refl, sym, ap, ◌∙◌, subst, arith}
 use Rattle.std.specs.Prelude.{unwrap_or, is_ok}
-use Rattle.std.specs.List.{find}
+use Rattle.std.specs.List.{find, IsDistinct}
 use Rattle.std.proofs.lemmas.List.{length-map}
 use Rattle.std.proofs.lemmas.Bool.Decides.{nat_tests}
 use Rattle.cw_types.specs.declared.ids.Item.{Item}
@@ -105,7 +105,7 @@ module _ (worker : ℕ) (ms : List Member) (at : ℕ) (place : IsPlace worker ms
   open_claim true d = refl
   open_claim false d = ap (λ (o : Member). o.claim) (got ms at d place.within)
 
-  module _ (b : Bool) (held : List Item) (group : IsGroup ms) (own : (d : Member) (x : Item) → has held x ≡ true → has (get_or ms at d).claim x ≡ true) where
+  module _ (b : Bool) (held : List Item) (once : IsDistinct same_item held) (group : IsGroup ms) (own : (d : Member) (x : Item) → has held x ≡ true → has (get_or ms at d).claim x ≡ true) where
     -- it has joined, and its claim has nothing new
     pub joined-group : (d o : Member) → o ≡ joined_with held (get_or (after b) at d) → IsGroup (set (after b) at o)
     joined-group d o is = group_shrinks (after b) (set (after b) at o) (set_shrinks (after b) at d o (open_within b) less) (open_group b ms group) where
@@ -113,6 +113,7 @@ module _ (worker : ℕ) (ms : List Member) (at : ℕ) (place : IsPlace worker ms
       less = record {
         worker = ap (λ (m : Member). m.worker) is;
         claim = λ x there. subst (λ (c : List Item). has c x ≡ true) (sym (open_claim b d)) (own d x (subst (λ (m : Member). has m.claim x ≡ true) is there));
+        once = λ _. subst (λ (m : Member). IsDistinct same_item m.claim) (sym is) once;
       }
 
     pub joined-members : (d : Member) → set (after b) at (joined_with held (get_or (after b) at d)) ≡ with_change (joined_with held) worker (after b)

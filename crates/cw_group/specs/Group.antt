@@ -1,4 +1,5 @@
--- A group and what each call does to it: the first refusal, or the answer and the group after it (Kafka's group membership, rounds as in KIP-415).
+-- A group and what each call does to it: the first refusal, or the answer and the group after it (Kafka's group
+-- membership, rounds as in KIP-415).
 use Rattle.std.specs.Prelude.{◌≡◌, ◌≢◌, ℕ, ◌+◌, ◌-◌, ◌^◌, ◌==◌, not, min, Bool, false, List, [], ◌++◌, map, Option, Some, None, Result, Ok, Err, MatchResult, unwrap_or, if◌then◌else◌}
 use Rattle.std.specs.List.{find}
 use Rattle.cw_types.specs.declared.ids.Item.{Item}
@@ -54,7 +55,7 @@ opened s = record {
 
 -- the same group with other members
 abbrev pub with_members : List Member → GroupState → GroupState
-with_members members s = record { round = s.round; phase = s.phase; made = s.made; members = members; planned = s.planned }
+with_members members s = record s { members = members }
 
 -- a member enters, with a new incarnation
 abbrev pub enters : ℕ → GroupState → GroupState
@@ -84,11 +85,13 @@ joins worker held s = with_members (with_change (joined_with held) worker (opene
 
 abbrev pub join_row : ℕ → ℕ → List Item → GroupState → Result (ℕ × GroupState) GroupFault
 join_row worker incarnation held s =
-    for_member (member_of worker s.members) (λ m. unless (join_refusal incarnation held s.phase m) ((opened s).round, joins worker held s))
+    for_member (member_of worker s.members) (λ m.
+    unless (join_refusal incarnation held s.phase m) ((opened s).round, joins worker held s))
 
 -- a member departs: the answer is its claim
 abbrev pub expire_row : ℕ → GroupState → Result (List Item × GroupState) GroupFault
-expire_row worker s = for_member (member_of worker s.members) (λ m. Ok (m.claim, opened (with_members (without worker s.members) s)))
+expire_row worker s =
+    for_member (member_of worker s.members) (λ m. Ok (m.claim, opened (with_members (without worker s.members) s)))
 
 -- a member that hasn't joined
 abbrev pub is_missing : Option ℕ → Option GroupFault
@@ -117,9 +120,10 @@ store_refusal worker round s =
 abbrev pub store_row : ℕ → ℕ → List Share → List Item → GroupState → Result GroupState GroupFault
 store_row worker round shares planned s =
     for_member (member_of worker s.members) (λ m. unless (store_refusal worker round s)
-    (record { round = s.round; phase = Planned; made = s.made; members = with_shares s.members shares; planned = planned }))
+    (record s { phase = Planned; members = with_shares s.members shares; planned = planned }))
 
--- a plan that may be stored: it is valid for the members with their claims, for some lost items, while a delay runs or not
+-- a plan that may be stored: it is valid for the members with their claims, for some lost items, while a delay runs or
+-- not
 pub record MayStore (members : List Member) (planned : List Item) (plan : Plan) : Type 0 where
   pub lost : List Item
   pub running : Bool
@@ -142,8 +146,11 @@ synced worker s m = record {
 }
 
 abbrev pub sync_row : ℕ → ℕ → GroupState → Result Synced GroupFault
-sync_row worker round s = for_member (member_of worker s.members) (λ m. unless (sync_refusal round s) (synced worker s m))
+sync_row worker round s =
+    for_member (member_of worker s.members) (λ m. unless (sync_refusal round s) (synced worker s m))
 
 -- a call did what its row says; where it is refused, or wants memory, the group is as before
-abbrev pub Does : {A : Type 0} → Result (A × GroupState) GroupFault → GroupState → GroupState → Result A GroupFault → Type 0
-Does row old new result = MatchResult result (λ a. row ≡ Ok (a, new)) (λ fault. (new ≡ old) × (fault ≢ Memory → row ≡ Err fault))
+abbrev pub Does : {A : Type 0} → Result (A × GroupState) GroupFault → GroupState → GroupState → Result A GroupFault →
+    Type 0
+Does row old new result =
+    MatchResult result (λ a. row ≡ Ok (a, new)) (λ fault. (new ≡ old) × (fault ≢ Memory → row ≡ Err fault))

@@ -1,12 +1,12 @@
 -- The members of a group, in the order of their numbers, and what each may run (Kafka's group membership; KIP-415).
 use Rattle.std.specs.Prelude.{◌≡◌, ℕ, ◌<◌, ◌==◌, true, false, not, List, [], ◌∷◌, ◌++◌, map, nat_lt, Option, Some, None, if◌then◌else◌}
 use Rattle.std.specs.Bool.{⊤}
-use Rattle.std.specs.List.{find, filter, flat_map, AllByRecursion}
+use Rattle.std.specs.List.{find, filter, flat_map, AllByRecursion, IsDistinct}
 use Rattle.std.specs.Option.{option_map}
 use Rattle.cw_types.specs.declared.ids.Item.{Item}
 use Rattle.cw_assign.specs.declared.share.Share.{Share}
 use Rattle.cw_assign.specs.declared.share.Holder.{Holder}
-use Rattle.cw_assign.specs.Items.{has}
+use Rattle.cw_assign.specs.Items.{same_item, has}
 use Rattle.cw_group.specs.declared.member.Member.{Member}
 
 -- a share of nothing
@@ -15,19 +15,20 @@ no_share worker = record { worker = worker; kept = []; fresh = []; revoked = [] 
 
 -- a member that has just entered
 abbrev pub new_member : ℕ → ℕ → Member
-new_member worker incarnation = record { worker = worker; incarnation = incarnation; claim = []; joined = false; share = no_share worker }
+new_member worker incarnation =
+    record { worker = worker; incarnation = incarnation; claim = []; joined = false; share = no_share worker }
 
 -- a member when a round opens: it hasn't joined
 abbrev pub unjoined : Member → Member
-unjoined m = record { worker = m.worker; incarnation = m.incarnation; claim = m.claim; joined = false; share = m.share }
+unjoined m = record m { joined = false }
 
 -- a member that has joined: it may run what it says it holds
 abbrev pub joined_with : List Item → Member → Member
-joined_with held m = record { worker = m.worker; incarnation = m.incarnation; claim = held; joined = true; share = m.share }
+joined_with held m = record m { claim = held; joined = true }
 
 -- a member with its share of a plan: it may also run what it is newly given
 abbrev pub sharing : Member → Share → Member
-sharing m share = record { worker = m.worker; incarnation = m.incarnation; claim = m.claim ++ share.fresh; joined = m.joined; share = share }
+sharing m share = record m { claim = m.claim ++ share.fresh; share = share }
 
 -- the member with a number
 abbrev pub member_of : ℕ → List Member → Option Member
@@ -75,6 +76,10 @@ claims_of members = flat_map (λ m. m.claim) members
 abbrev pub AreRising : List Member → Type 0
 AreRising [] = ⊤
 AreRising (m ∷ members) = AllByRecursion (λ o. m.worker < o.worker) members × AreRising members
+
+-- no claim has an item twice
+abbrev pub HaveNoRepeat : List Member → Type 0
+HaveNoRepeat members = AllByRecursion (λ m. IsDistinct same_item m.claim) members
 
 -- no item is in the claims of two members
 abbrev pub AreApart : List Member → Type 0

@@ -4,6 +4,7 @@ ghost use Rattle.cw_group.specs.Phases.{is_open, is_closed};
 
 use cw_types::{Item, Listed};
 use std::alloc::AllocError;
+use thiserror::Error;
 
 /// Where a round stands.
 #[derive(Clone, Copy, Debug, PartialEq, Eq, Drop)]
@@ -37,26 +38,34 @@ impl Phase {
 }
 
 /// Why a call was refused, in the order in which the reasons are tested.
-#[derive(Debug, PartialEq, Eq, Drop)]
+#[derive(Debug, PartialEq, Eq, Drop, Error)]
 pub enum GroupFault {
     /// The worker is no member, or not with this incarnation.
+    #[error("no such member")]
     Unknown,
     /// The member says that it holds this item, which isn't in its claim.
+    #[error("an item that the member may not run")]
     NotClaimed(Item),
     /// The member has joined this round.
+    #[error("the member has joined this round")]
     AlreadyJoined,
     /// This member hasn't joined yet; it is the lowest such.
+    #[error("worker {0} has not joined")]
     Missing(u32),
     /// The round has no plan yet.
+    #[error("the round has no plan")]
     NoPlan,
     /// A lower member leads.
+    #[error("a lower member leads")]
     NotLeader,
     /// The round is another one, or in another phase.
+    #[error("the round is {current}")]
     OldGeneration {
         /// The group's round.
         current: u64,
     },
     /// Want of memory.
+    #[error("out of memory")]
     Memory,
 }
 

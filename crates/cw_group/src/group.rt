@@ -1,6 +1,9 @@
 //! The group.
 ghost use Rattle.std.specs.Prelude.{◌≡◌, ◌≢◌, ◌<◌, ℕ, List, Some, None, Ok, Err, IfOk, IsOk, OnErr, MatchResult, MatchOption, option_copied, false, is_some, length, slice_index_or};
+ghost use Rattle.std.specs.List.{IsDistinct};
 ghost use Rattle.std.specs.Option.{option_map, option_map_or};
+ghost use Rattle.cw_assign.specs.Items.{same_item};
+ghost use Rattle.cw_assign.specs.Plan.{held_by};
 ghost use Rattle.cw_group.specs.declared.member.Member.{Member};
 
 use crate::answers::{GroupFault, Phase, Synced};
@@ -32,13 +35,20 @@ impl Model for Group {
 
     ghost use Rattle.cw_group.specs.Places.{IsGroup};
 
-    ghost view = { λ g. record { round = g.round; phase = g.phase; made = g.made; members = g.members.items; planned = g.planned.items } };
+    ghost view = { λ g.
+        record {
+          round = g.round;
+          phase = g.phase;
+          made = g.made;
+          members = g.members.items;
+          planned = g.planned.items;
+        } };
 
     ghost invariant = { λ g. IsGroup g.members.items };
 }
 
 impl Group {
-    ghost use Rattle.cw_group.specs.Members.{member_of, lowest_in, lowest_missing_in, holders_of, AreRising, AreApart};
+    ghost use Rattle.cw_group.specs.Members.{member_of, lowest_in, lowest_missing_in, holders_of, AreRising, AreApart, HaveNoRepeat};
     ghost use Rattle.cw_group.specs.Group.{GroupState, empty_group, next, enters, Does, join_row, expire_row, close_row, store_row, sync_row, MayStore, join_refusal, store_refusal};
     ghost use Rattle.cw_group.specs.Places.{IsPlace};
 
@@ -59,7 +69,8 @@ impl Group {
     /// A worker enters as a new member, in place of an earlier one of its own. It has an empty claim and
     /// has not joined. The answer is its incarnation, the number of members made so far.
     pub fn enter(&mut self, worker: u32) -> Result<u64, GroupFault>
-        ensures ok { IfOk result (λ incarnation. (incarnation ≡ next self.old.made) × (self.new ≡ enters worker self.old)) }
+        ensures ok { IfOk result (λ incarnation.
+            (incarnation ≡ next self.old.made) × (self.new ≡ enters worker self.old)) }
         ensures err { OnErr result (self.new ≡ self.old) }
         ensures memory { (fault : GroupFault) → result ≡ Err fault → fault ≡ GroupFault.Memory }
     {
@@ -72,7 +83,8 @@ impl Group {
 
     /// What a member may run; None where the worker is no member.
     pub fn claim(&self, worker: u32) -> Option<&[Item]>
-        ensures { option_map (λ claim. claim.now) result ≡ option_map (λ m. m.claim) (member_of worker self.now.members) }
+        ensures { option_map (λ claim. claim.now) result ≡
+            option_map (λ m. m.claim) (member_of worker self.now.members) }
     {
         let member = member_at(&self.members, worker)?;
         Some(member.claim.as_slice())
@@ -134,25 +146,28 @@ impl Group {
         self.planned.as_slice()
     }
 
-    /// The members, in the order of their numbers. Their claims are disjoint.
+    /// The members, in the order of their numbers. Their claims are disjoint, and none has an item twice.
     pub fn members(&self) -> &[Member]
         ensures value { result.now ≡ self.now.members }
         ensures rising { AreRising self.now.members }
         ensures apart { AreApart self.now.members }
+        ensures no_repeat { HaveNoRepeat self.now.members }
     {
         self.members.as_slice()
     }
 
-    /// The members with their claims, as a plan takes them.
+    /// The members with their claims, as a plan takes them: nothing is held twice.
     pub fn holders(&self) -> Result<Vec<Holder>, AllocError>
-        ensures { IfOk result (λ holders. holders.items ≡ holders_of self.now.members) }
+        ensures holders { IfOk result (λ holders. holders.items ≡ holders_of self.now.members) }
+        ensures apart { IfOk result (λ holders. IsDistinct same_item (held_by holders.items)) }
     {
         holders(self.alloc, &self.members)
     }
 
-    /// A member joins the round and says what it holds, which becomes its claim; a round that isn't open
-    /// gives way to the next one. The answer is the round.
+    /// A member joins the round and says what it holds, each item once, which becomes its claim; a round that
+    /// isn't open gives way to the next one. The answer is the round.
     pub fn join(&mut self, worker: u32, incarnation: u64, held: &[Item]) -> Result<u64, GroupFault>
+        requires { IsDistinct same_item held.now }
         ensures { Does (join_row worker incarnation held.now self.old) self.old self.new result }
     {
         let at = self.joining(worker, incarnation, held)?;
@@ -166,7 +181,8 @@ impl Group {
     fn joining(&self, worker: u32, incarnation: u64, held: &[Item]) -> Result<usize, GroupFault>
         ensures { MatchResult result
             (λ at. IsPlace worker self.now.members at
-            × ((d : Member) → join_refusal incarnation held.now self.now.phase (slice_index_or self.now.members at d) ≡ None))
+            × ((d : Member) →
+            join_refusal incarnation held.now self.now.phase (slice_index_or self.now.members at d) ≡ None))
             (λ fault. fault ≢ GroupFault.Memory → join_row worker incarnation held.now self.now ≡ Err fault) }
     {
         let Some(at) = place_of(&self.members, worker) else {
@@ -255,8 +271,10 @@ impl Group {
     // Whether a plan may be stored by this member.
     fn storing(&self, worker: u32, round: u64) -> Result<(), GroupFault>
         ensures { MatchResult result
-            (λ _. ((m : Member) × (member_of worker self.now.members ≡ Some m)) × (store_refusal worker round self.now ≡ None))
-            (λ fault. (fault ≢ GroupFault.Memory) × ((shares : List Share) (planned : List Item) → store_row worker round shares planned self.now ≡ Err fault)) }
+            (λ _. ((m : Member) × (member_of worker self.now.members ≡ Some m))
+            × (store_refusal worker round self.now ≡ None))
+            (λ fault. (fault ≢ GroupFault.Memory) × ((shares : List Share) (planned : List Item) →
+            store_row worker round shares planned self.now ≡ Err fault)) }
     {
         let Some(_) = member_at(&self.members, worker) else {
             return Err(GroupFault::Unknown);
@@ -311,7 +329,8 @@ ghost use Rattle.cw_group.specs.Phases.{is_open};
 fn open(round: &mut u64, phase: &mut Phase, members: &mut Vec<Member>)
     ensures round { round.new ≡ (if is_open phase.old then round.old else next round.old) }
     ensures phase { phase.new ≡ Phase.Open }
-    ensures members { members.new.items ≡ (if is_open phase.old then members.old.items else map unjoined members.old.items) }
+    ensures members { members.new.items ≡
+        (if is_open phase.old then members.old.items else map unjoined members.old.items) }
 {
     if phase.is_open() {
         return;

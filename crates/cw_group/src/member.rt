@@ -140,7 +140,8 @@ fn first_from(members: &[Member], worker: u32) -> usize
     requires { AreRising members.now }
     ensures within { result ≤ length members.now }
     ensures below { (k : ℕ) (d : Member) → k < result → (slice_index_or members.now k d).worker < worker }
-    ensures from { (k : ℕ) (d : Member) → result ≤ k → k < length members.now → worker ≤ (slice_index_or members.now k d).worker }
+    ensures from { (k : ℕ) (d : Member) → result ≤ k → k < length members.now →
+        worker ≤ (slice_index_or members.now k d).worker }
 {
     let mut low = 0;
     let mut high = members.len();

@@ -22,7 +22,7 @@ member_is c =
 pub invariant_of-self : goal.invariant_of-self
 invariant_of-self c =
     subst (λ (ms : List Member). IsGroup (set ms c.in_ok-at.at c.join.new.self)) (sym c.open.ensures.members)
-    (joined-group c.args.worker c.self.inside.members.items c.in_ok-at.at (place c) (is_open c.self.inside.phase) c.args.held.now c.self.invariant
+    (joined-group c.args.worker c.self.inside.members.items c.in_ok-at.at (place c) (is_open c.self.inside.phase) c.args.held.now c.requires c.self.invariant
     (λ d. join-claims c.args.incarnation c.args.held.now c.self.inside.phase (get_or c.self.inside.members.items c.in_ok-at.at d) (allowed c d))
     c.index_mut.result.now c.join.new.self (member_is c))
 
@@ -34,5 +34,5 @@ returns c = rw (← c.self.view_is)
     ((place c).found c.index_mut.result.now) (allowed c c.index_mut.result.now) c.open.ensures.round c.open.ensures.phase
     (ap (λ (ms : List Member). set ms c.in_ok-at.at c.join.new.self) c.open.ensures.members
     ∙ ap (λ (m : Member). set (cond (is_open c.self.inside.phase) c.self.inside.members.items (map unjoined c.self.inside.members.items)) c.in_ok-at.at m) (member_is c)
-    ∙ joined-members c.args.worker c.self.inside.members.items c.in_ok-at.at (place c) (is_open c.self.inside.phase) c.args.held.now c.self.invariant
+    ∙ joined-members c.args.worker c.self.inside.members.items c.in_ok-at.at (place c) (is_open c.self.inside.phase) c.args.held.now c.requires c.self.invariant
     (λ d. join-claims c.args.incarnation c.args.held.now c.self.inside.phase (get_or c.self.inside.members.items c.in_ok-at.at d) (allowed c d)) c.index_mut.result.now))
