@@ -79,9 +79,9 @@ is_first_byte at (byte ∷ other ∷ bytes) n = false
 pub record Wrote (at : ℕ) (from : List ℕ) (old new : Held) : Type 0 where
   pub bytes : new.bytes.items ≡ written old.bytes.items at from
   pub loose : new.loose.items ≡
-    written old.loose.items at (replicate (length from) (not (is_first_byte at from (length old.loose.items))))
+      written old.loose.items at (replicate (length from) (not (is_first_byte at from (length old.loose.items))))
   pub synced : new.synced.items ≡ (if is_first_byte at from (length old.loose.items)
-    then replicate (length old.synced.items) 0 else old.synced.items)
+      then replicate (length old.synced.items) 0 else old.synced.items)
   pub least : new.least ≡ old.least
   pub clean : new.clean ≡ min old.clean at
 

@@ -60,7 +60,10 @@ fn make_folder<R: Files>(files: &R) -> io::Result<()> {
 
 // Makes it durable which files are in a folder.
 fn sync_folder<R: Files>(files: &R, folder: &str) -> io::Result<()> {
-    OpenOptions::new().read(true).open(files, folder)?.sync_all()
+    OpenOptions::new()
+        .read(true)
+        .open(files, folder)?
+        .sync_all()
 }
 
 // Makes folder and file where they are missing, and opens the file.

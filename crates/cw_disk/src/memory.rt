@@ -41,8 +41,15 @@ impl Model for MemDisk {
 
     ghost Value = { MemState };
 
-    ghost view = { λ m. record { held = m.held; past = m.past.items; count = m.count; room = m.room;
-        failing = m.failing.items; fuse = m.fuse; calls = m.calls } };
+    ghost view = { λ m. record {
+      held = m.held;
+      past = m.past.items;
+      count = m.count;
+      room = m.room;
+      failing = m.failing.items;
+      fuse = m.fuse;
+      calls = m.calls;
+    } };
 
     ghost invariant = { λ m. IsMemory m.room m.held };
 }
