@@ -7,3 +7,4 @@ pub mod Records
 pub mod Many
 pub mod Marks
 pub mod Bodies
+pub mod Compacted

@@ -1,2 +1,11 @@
+pub mod Rising
 pub mod Pushed
+pub mod Looks
+pub mod Puts
+pub mod Ranges
+pub mod MadeRows
 pub mod Names
+pub mod Applying
+pub mod Clean
+pub mod Alike
+pub mod Kept

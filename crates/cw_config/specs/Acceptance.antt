@@ -1,4 +1,5 @@
--- Which records may stand behind others in the config log: offsets rise, and a commit finds a record of each of its tasks.
+-- Which records may stand behind others in the config log: offsets rise, and a commit finds a record of each of its
+-- tasks.
 use Rattle.std.specs.Prelude.{ℕ, ◌+◌, ◌^◌, ◌&&◌, Bool, true, nat_le, nat_lt, max, List, [], ◌∷◌, ◌++◌, Option, Some, None, is_some, option_and_then, Result, Ok, Err, if◌then◌else◌}
 use Rattle.std.specs.List.{fold, list_all, range_with_len}
 use Rattle.cw_keys.specs.Configs.{config_of}
@@ -20,7 +21,8 @@ next_of records = if nat_lt (end_of records) (2 ^ 64) then Some (end_of records)
 
 -- each task below a count has a record behind its connector's last commit
 abbrev pub has_tasks : List ℕ → ℕ → List ConfigRecord → Bool
-has_tasks name count records = list_all (λ index. is_some (deferred_record (record { connector = name; index = index }) records)) (range_with_len 0 count)
+has_tasks name count records =
+    list_all (λ index. is_some (deferred_record (record { connector = name; index = index }) records)) (range_with_len 0 count)
 
 -- a commit has its tasks; other records need nothing
 abbrev pub is_backed : List ConfigRecord → ConfigKey → Option ConfigValue → Bool

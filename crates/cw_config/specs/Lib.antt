@@ -1,6 +1,8 @@
 pub mod Records
 pub mod View
 pub mod Acceptance
-pub mod Scans
-pub mod Rising
 pub mod Connectors
+pub mod Compaction
+pub mod Reserved
+pub mod Rows
+pub mod Tables

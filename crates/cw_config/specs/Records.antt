@@ -1,4 +1,5 @@
--- The last record of a key: in Connect's config topic each key's last record counts, a record without a value being none.
+-- The last record of a key: in Connect's config topic each key's last record counts, a record without a value being
+-- none.
 use Rattle.std.specs.Prelude.{◌==◌, ◌&&◌, Bool, false, List, Option, option_and_then, reverse, bytes_eq}
 use Rattle.std.specs.List.{find}
 use Rattle.cw_keys.specs.declared.config_key.ConfigKey.{ConfigKey}

@@ -1,5 +1,6 @@
--- What the records of the config log say of a connector (Connect's config topic; KIP-618 for fences, KIP-875 for target states).
--- A set of tasks takes effect with the commit behind it; a fence counts for the task sets committed before it.
+-- What the records of the config log say of a connector (Connect's config topic; KIP-618 for fences, KIP-875 for
+-- target states). A set of tasks takes effect with the commit behind it; a fence counts for the task sets committed
+-- before it.
 use Rattle.std.specs.Prelude.{ℕ, ◌&&◌, Bool, true, false, not, nat_lt, List, Option, Some, None, is_some, unwrap_or, option_map, option_and_then, if◌then◌else◌}
 use Rattle.cw_types.specs.declared.ids.TaskId.{TaskId}
 use Rattle.cw_keys.specs.declared.target.Target.{Target}
@@ -70,16 +71,19 @@ is_behind (Some generation) r = nat_lt generation r.offset
 
 -- the last record of a task before its connector's generation
 abbrev pub committed_record : TaskId → List ConfigRecord → Option ConfigRecord
-committed_record id records = last_where (λ r. has_key (Task id) r && is_before (generation_of id.connector records) r) records
+committed_record id records =
+    last_where (λ r. has_key (Task id) r && is_before (generation_of id.connector records) r) records
 
 -- the last record of a task behind its connector's generation
 abbrev pub deferred_record : TaskId → List ConfigRecord → Option ConfigRecord
-deferred_record id records = last_where (λ r. has_key (Task id) r && is_behind (generation_of id.connector records) r) records
+deferred_record id records =
+    last_where (λ r. has_key (Task id) r && is_behind (generation_of id.connector records) r) records
 
 -- the config of a task, whose index is below its connector's task count
 abbrev pub task_of : TaskId → List ConfigRecord → Option Properties
 task_of id records =
-    if nat_lt id.index (task_count_of id.connector records) then option_and_then properties_in (value_of (committed_record id records)) else None
+    if nat_lt id.index (task_count_of id.connector records)
+    then option_and_then properties_in (value_of (committed_record id records)) else None
 
 -- the config of a task that waits for a commit
 abbrev pub deferred_of : TaskId → List ConfigRecord → Option Properties
@@ -87,7 +91,8 @@ deferred_of id records = option_and_then properties_in (value_of (deferred_recor
 
 -- a fence stands behind a connector's generation
 abbrev pub is_fenced : List ℕ → List ConfigRecord → Bool
-is_fenced name records = is_some (last_where (λ r. has_key (Fencing name) r && is_behind (generation_of name records) r) records)
+is_fenced name records =
+    is_some (last_where (λ r. has_key (Fencing name) r && is_behind (generation_of name records) r) records)
 
 -- a connector has a generation, whose producers before it aren't fenced yet
 abbrev pub is_pending : List ℕ → List ConfigRecord → Bool

@@ -1,5 +1,5 @@
 //! A record of the config log.
-ghost use Rattle.std.specs.Prelude.{◌≡◌, ◌++◌, ◌∷◌, [], ℕ, None, Some, Err, IfOk, OnOk, OnErr, option_map};
+ghost use Rattle.std.specs.Prelude.{◌≡◌, ℕ, None, Some, Err, IfOk, option_map};
 ghost use Rattle.cw_config.specs.Acceptance.{record_of};
 
 use crate::fault::ApplyFault;
@@ -65,13 +65,4 @@ pub fn read_record(
         Err(KeyFault::BadValue) => Err(ApplyFault::BadRecord(offset)),
         Err(KeyFault::Memory) => Err(ApplyFault::Memory),
     }
-}
-
-/// One record more.
-pub fn append(records: &mut Vec<ConfigRecord>, record: ConfigRecord) -> Result<(), AllocError>
-    ensures ok { OnOk result (records.new.items ≡ records.old.items ++ «record» ∷ []) }
-    ensures err { OnErr result (records.new.items ≡ records.old.items) }
-{
-    records.push(record)?;
-    Ok(())
 }

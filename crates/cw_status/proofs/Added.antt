@@ -1,42 +1,50 @@
 -- What statuses keep behind their steps.
-use Rattle.std.proofs.Common.{◌≡◌, ℕ, ◌+◌, ◌≤◌, List, [], ◌∷◌, ◌++◌, length, take, drop, suc, drop-cons, add-one, slice_index_or, Contains, sym, ap, subst, ◌∙◌, arith, length-append, ⊎_elim}
-use Rattle.std.specs.Prelude.{Option}
+use Rattle.std.proofs.Common.{◌≡◌, ℕ, ◌+◌, Bool, cond, List, [], ◌∷◌, ◌++◌, length, take, drop, suc, drop-cons, add-one, slice_index_or, Contains, Option, None, Some, sym, ap, subst, ◌∙◌, ⊎_elim}
 use Rattle.std.specs.BTreeMap.{BTreeMap}
 use Rattle.std.proofs.lemmas.List.{take-append-drop, get_or_default}
 use Rattle.std.proofs.lemmas.List.Elements.{Contains-push_cases, Contains-append_left, Contains-append_right, Contains-append_cases}
+use Rattle.std.proofs.lemmas.List.Sums.{fold-append}
 use Rattle.cw_types.specs.declared.ids.Item.{Item}
+use Rattle.cw_keys.specs.declared.status.StatusValue.{StatusValue}
 use Rattle.cw_status.specs.declared.record.StatusRecord.{StatusRecord}
 use Rattle.cw_status.specs.Records.{WithoutFirst}
-use Rattle.cw_status.specs.Table.{Keeps, HasRow, place_at, status_at, IsWithin, IsFirstAt, IsStatuses}
+use Rattle.cw_status.specs.Statuses.{is_item, after_record, latest}
+use Rattle.cw_status.specs.Table.{HasRow, status_at, IsFirstAt, IsStatuses}
 
-module _ (places : BTreeMap Item (Option ℕ)) (applied reserved : List StatusRecord) (capacity : ℕ) (was : IsStatuses places applied reserved capacity) where
-  -- with more room
-  pub roomier : (now : BTreeMap Item (Option ℕ)) (same_applied : List StatusRecord) (more : ℕ) → ((q : Item) → place_at now q ≡ place_at places q) → ((q : Item) → HasRow places q → HasRow now q)
-      → same_applied ≡ applied → capacity ≤ more → IsStatuses now same_applied reserved more
-  roomier now same_applied more same keeps is grown = rw is record {
-    kept = record {
-      latest = λ q. ap (status_at applied) (same q) ∙ was.kept.latest q;
-      within = λ q. subst (IsWithin applied) (sym (same q)) (was.kept.within q);
-    };
+-- an item's last status behind one more record
+pub latest-push : (item : Item) (applied : List StatusRecord) (last : StatusRecord) → latest item (applied ++ last ∷ []) ≡ cond (is_item last.item item) (Some last.value) (latest item applied)
+latest-push item applied last = fold-append (after_record item) None applied (last ∷ [])
+
+module _ (table : BTreeMap Item (Option StatusValue)) (applied reserved : List StatusRecord) (was : IsStatuses table applied reserved) where
+  -- with more rows
+  pub roomier : (now : BTreeMap Item (Option StatusValue)) (same_applied : List StatusRecord) → same_applied ≡ applied → ((q : Item) → status_at now q ≡ status_at table q)
+      → ((q : Item) → HasRow table q → HasRow now q) → IsStatuses now same_applied reserved
+  roomier now same_applied is same keeps = rw is record {
+    kept = λ q. same q ∙ was.kept q;
     rows = λ e there. keeps e.item (was.rows e there);
-    room = omega (arith, was.room, grown);
   }
 
   -- with a record reserved
-  pub reserved_one : (last : StatusRecord) (more : List StatusRecord) → more ≡ reserved ++ last ∷ [] → HasRow places last.item → length applied + (length reserved + 1) ≤ capacity → IsStatuses places applied more capacity
-  reserved_one last more is has room = rw is record {
+  pub reserved_one : (last : StatusRecord) (more : List StatusRecord) → more ≡ reserved ++ last ∷ [] → HasRow table last.item → IsStatuses table applied more
+  reserved_one last more is has = rw is record {
     kept = was.kept;
-    rows = λ e there. ⊎_elim (λ old. was.rows e old) (λ (one : last ≡ e). subst (λ (x : StatusRecord). HasRow places x.item) one has) (Contains-push_cases reserved last e there);
-    room = simp length-append room;
+    rows = λ e there. ⊎_elim (λ old. was.rows e old) (λ (one : last ≡ e). subst (λ (x : StatusRecord). HasRow table x.item) one has) (Contains-push_cases reserved last e there);
+  }
+
+  -- with less reserved
+  pub fewer_reserved : (rest : List StatusRecord) → ((e : StatusRecord) → Contains rest e → Contains reserved e) → IsStatuses table applied rest
+  fewer_reserved rest fewer = record {
+    kept = was.kept;
+    rows = λ e there. was.rows e (fewer e there);
   }
 
   -- with a record applied
-  pub applied_one : (now : BTreeMap Item (Option ℕ)) (last : StatusRecord) (longer rest : List StatusRecord) (more : ℕ) → longer ≡ applied ++ last ∷ [] → Keeps now longer → ((q : Item) → HasRow places q → HasRow now q)
-      → ((e : StatusRecord) → Contains rest e → Contains reserved e) → length applied + 1 + length rest ≤ more → IsStatuses now longer rest more
-  applied_one now last longer rest more is kept keeps fewer room = record {
-    kept = kept;
+  pub applied_one : (now : BTreeMap Item (Option StatusValue)) (last : StatusRecord) (longer rest : List StatusRecord) → longer ≡ applied ++ last ∷ []
+      → ((q : Item) → status_at now q ≡ cond (is_item last.item q) (Some last.value) (status_at table q)) → ((q : Item) → HasRow table q → HasRow now q)
+      → ((e : StatusRecord) → Contains rest e → Contains reserved e) → IsStatuses now longer rest
+  applied_one now last longer rest is set keeps fewer = rw is record {
+    kept = λ q. set q ∙ ap (λ (o : Option StatusValue). cond (is_item last.item q) (Some last.value) o) (was.kept q) ∙ sym (latest-push q applied last);
     rows = λ e there. keeps e.item (was.rows e (fewer e there));
-    room = rw is (simp length-append room);
   }
 
 -- what is taken from the first place of a record is that record

@@ -1,3 +1,4 @@
 pub mod Statuses
 pub mod Records
 pub mod Table
+pub mod Compaction

@@ -1,4 +1,5 @@
--- What the statuses are to their callers: the list of applied records, and records for which room was made before they are applied.
+-- What the statuses are to their callers: the list of applied records, and records for which room was made before
+-- they are applied.
 use Rattle.std.specs.Prelude.{◌≡◌, List, [], ◌∷◌, ◌++◌, Contains, ◌⊎◌}
 use Rattle.cw_status.specs.declared.record.StatusRecord.{StatusRecord}
 

@@ -2,7 +2,7 @@
 use crate::StatusState;
 use cw_json::Text;
 use cw_keys::{State, StatusValue};
-use cw_types::{Item, Name, TaskId};
+use cw_types::{Item, Name};
 use std::process::Abort;
 use std::test::Fail;
 
@@ -22,29 +22,6 @@ fn expect_latest(rt: &impl Abort, statuses: &StatusState, item: &Item, state: St
             .latest(item)
             .is_some_and(|latest| latest.state == state && latest.round == round)
     );
-}
-
-#[test]
-fn last_record_of_an_item_counts(rt: HostRuntime) -> Result<(), Fail> {
-    let mut statuses = StatusState::new(rt.alloc());
-    let name = Name::read(rt.alloc(), b"a")?;
-    let task = Item::Task(TaskId {
-        connector: name.copy()?,
-        index: 0,
-    });
-    let connector = Item::Connector(name);
-    assert!(rt; statuses.latest(&connector).is_none());
-    statuses.apply(0, &connector, status(State::Running, None, 1))?;
-    assert!(rt; statuses.latest(&task).is_none());
-    let trace = Text::of(rt.alloc(), "Line too long at 7")?;
-    statuses.apply(1, &task, status(State::Failed, Some(trace), 1))?;
-    expect_latest(&rt, &statuses, &connector, State::Running, 1);
-    expect_latest(&rt, &statuses, &task, State::Failed, 1);
-    statuses.apply(2, &task, status(State::Running, None, 2))?;
-    statuses.apply(3, &connector, status(State::Paused, None, 2))?;
-    expect_latest(&rt, &statuses, &connector, State::Paused, 2);
-    expect_latest(&rt, &statuses, &task, State::Running, 2);
-    Ok(())
 }
 
 #[test]
