@@ -4,3 +4,4 @@ pub mod Props
 pub mod Reading
 pub mod Rising
 pub mod Writing
+pub mod Inserting

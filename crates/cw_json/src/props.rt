@@ -1,6 +1,9 @@
 //! Properties: keys and values, each a text.
-ghost use Rattle.std.specs.Prelude.{◌≡◌, [], IfOk, option_map};
+ghost use Rattle.std.specs.Prelude.{◌≡◌, [], IfOk, OnOk, OnErr, count_by, option_map};
+ghost use Rattle.std.specs.Ordering.{nat_cmp, is_lt};
+ghost use Rattle.std.specs.Cmp.Lexicographic.{slice_cmp};
 ghost use Rattle.cw_json.specs.Rising.{IsRising};
+ghost use Rattle.cw_json.specs.Inserting.{with_value};
 ghost use Rattle.cw_json.specs.Pairs.{value_in};
 
 use crate::text::Text;
@@ -70,6 +73,21 @@ impl Props {
         None
     }
 
+    /// Sets the value of a key: in place of the one that it has, or at the key's place among the others. After
+    /// want of memory the properties are as they were.
+    pub fn insert(&mut self, key: Text, value: Text) -> Result<(), AllocError>
+        ensures ok { OnOk result (self.new ≡ with_value key value self.old) }
+        ensures err { OnErr result (self.new ≡ self.old) }
+    {
+        let at = lesser(&self.pairs, key.as_str());
+        if self.get(key.as_str()).is_some() {
+            self.pairs[at] = (key, value);
+            return Ok(());
+        }
+        self.pairs.insert(at, (key, value))?;
+        Ok(())
+    }
+
     /// A copy.
     pub fn copy(&self) -> Result<Self, AllocError>
         ensures { IfOk result (λ props. props ≡ self.now) }
@@ -80,4 +98,17 @@ impl Props {
         }
         Ok(Props { pairs })
     }
+}
+
+fn is_below(name: &Text, key: &str) -> bool
+    ensures { result ≡ is_lt (slice_cmp nat_cmp name.now key.now) }
+{
+    name.as_str().as_bytes().cmp(key.as_bytes()).is_lt()
+}
+
+// How many keys stand below a key.
+fn lesser(pairs: &[(Text, Text)], key: &str) -> usize
+    ensures { result ≡ count_by (λ p. is_lt (slice_cmp nat_cmp p.0 key.now)) pairs.now }
+{
+    pairs.iter().filter(|pair| is_below(&pair.0, key)).count()
 }
