@@ -1,5 +1,5 @@
 //! The calls of the REST API, and why a request is none of them.
-ghost use Rattle.std.specs.Prelude.{◌≡◌};
+ghost use Rattle.std.specs.Prelude.{◌≡◌, IfOk};
 
 use cw_types::{Listed, Name, TaskId};
 use std::alloc::AllocError;
@@ -45,6 +45,35 @@ pub enum Call {
     Reset(Name),
     /// The classes of connectors.
     Plugins,
+}
+
+impl Call {
+    /// A copy.
+    pub fn copy(&self) -> Result<Call, AllocError>
+        ensures { IfOk result (λ call. call ≡ self.now) }
+    {
+        match self {
+            Call::Refused(fault) => Ok(Call::Refused(*fault)),
+            Call::Connectors => Ok(Call::Connectors),
+            Call::Create(body) => Ok(Call::Create(body.copy()?)),
+            Call::Info(name) => Ok(Call::Info(name.copy()?)),
+            Call::Delete(name) => Ok(Call::Delete(name.copy()?)),
+            Call::Config(name) => Ok(Call::Config(name.copy()?)),
+            Call::PutConfig(name, body) => Ok(Call::PutConfig(name.copy()?, body.copy()?)),
+            Call::Status(name) => Ok(Call::Status(name.copy()?)),
+            Call::Tasks(name) => Ok(Call::Tasks(name.copy()?)),
+            Call::TaskStatus(id) => Ok(Call::TaskStatus(id.copy()?)),
+            Call::Pause(name) => Ok(Call::Pause(name.copy()?)),
+            Call::Resume(name) => Ok(Call::Resume(name.copy()?)),
+            Call::Stop(name) => Ok(Call::Stop(name.copy()?)),
+            Call::Restart(name) => Ok(Call::Restart(name.copy()?)),
+            Call::RestartTask(id) => Ok(Call::RestartTask(id.copy()?)),
+            Call::Offsets(name) => Ok(Call::Offsets(name.copy()?)),
+            Call::Alter(name, body) => Ok(Call::Alter(name.copy()?, body.copy()?)),
+            Call::Reset(name) => Ok(Call::Reset(name.copy()?)),
+            Call::Plugins => Ok(Call::Plugins),
+        }
+    }
 }
 
 /// Why a request is no call. The first that holds is told, in the order NotFound, NotAllowed,

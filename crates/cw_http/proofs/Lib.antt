@@ -1,0 +1,6 @@
+pub mod Numbers
+pub mod HeadEnds
+pub mod Moves
+pub mod Exits
+pub mod Outlines
+pub mod Readings
