@@ -1,8 +1,6 @@
 -- What a changed row of a table says.
-use Rattle.std.proofs.Common.{◌≡◌, Bool, true, false, cond, List, [], ◌∷◌, length, Option, Some, None, unwrap_or, refl, sym, ap, ◌∙◌}
+use Rattle.std.proofs.Common.{◌≡◌, Bool, true, false, cond, Option, Some, unwrap_or, refl, sym, ap, ◌∙◌}
 use Rattle.std.specs.Bool.{Decides}
-use Rattle.std.specs.HashMap.{HashMap, get, hash_map_len}
-use Rattle.std.specs.Map.{lookup}
 
 -- a table's row that was set, where a missing one reads as m
 unwrap_or-cond : {A : Type 0} (b : Bool) (now was : Option A) (row m : A) → now ≡ cond b (Some row) was → unwrap_or now m ≡ cond b row (unwrap_or was m)
@@ -31,11 +29,3 @@ module _ {T K A : Type 0} (look : T → K → Option A) (ties same : K → K →
     pub value-moved : (f : A → A) → row ≡ f (value old key) → (q : K) → value new q ≡ cond (same q key) (f (value old q)) (value old q)
     value-moved f is q = value-set q ∙ cond_agrees (same q key) row (f (value old key)) (value old q) (λ one. is) ∙ cond_agrees (same q key) (f (value old key)) (f (value old q)) (value old q)
         (λ one. ap (λ (k : K). f (value old k)) (sym ((tells q key).0 one)))
-
--- an empty table has no row
-pub none_of_empty : {K X S : Type 0} (eq : K → K → Bool) (table : HashMap K X S) (key : K) → hash_map_len table ≡ 0 → get eq table key ≡ None
-none_of_empty {K} {X} eq table key none = by_entries table.entries none
-  where
-    by_entries : (entries : List (K × X)) → length entries ≡ 0 → lookup (eq key) entries ≡ None
-    by_entries [] none = refl
-    by_entries (entry ∷ entries) none = cc

@@ -1,15 +1,20 @@
 -- Lists of allowed entries are legal and numbered, and stay allowed behind a bump and behind a script's next commit.
-use Rattle.std.proofs.Common.{◌≡◌, ℕ, List, [], ◌∷◌, ◌++◌, length, map, All, sym, subst}
+use Rattle.std.proofs.Common.{◌≡◌, ℕ, List, [], ◌∷◌, ◌++◌, length, map, All, Some, false, sym, subst}
+use Rattle.std.specs.List.{IsDistinct}
 use Rattle.std.proofs.lemmas.List.Elements.{All-map}
 use Rattle.cw_types.specs.declared.ids.Tid.{Tid}
 use Rattle.cw_types.specs.declared.ids.Tid.TheVariants.{Lead, Task, Raw}
 use Rattle.cw_types.specs.declared.ids.Tag.{Tag}
 use Rattle.cw_types.specs.declared.ids.PartKey.{PartKey}
 use Rattle.cw_types.specs.declared.ids.Span.{Span}
+use Rattle.cw_types.specs.declared.ids.TaskId.{TaskId}
+use Rattle.cw_types.specs.declared.ids.Epoch.{Epoch}
+use Rattle.cw_types.specs.Same.{same_part, connector_of}
+use Rattle.cw_txn.specs.declared.entry.SetOffset.{SetOffset}
 use Rattle.cw_txn.specs.declared.entry.Entry.{Entry}
 use Rattle.cw_txn.specs.declared.entry.Entry.TheVariants.{Bump, Commit, Set}
-use Rattle.cw_txn.specs.Legal.{EachFrom, IsLegalBehind, IsLegal, IsNumberedBehind, AreNumbered, epoch_of}
-use Rattle.cw_txn.specs.Allowed.{IsRaw, CommitsOwn, IsAllowedBehind, AreAllowed}
+use Rattle.cw_txn.specs.Legal.{EachFrom, IsLegalBehind, IsLegal, IsNumberedBehind, AreNumbered, epoch_of, is_committed}
+use Rattle.cw_txn.specs.Allowed.{IsRaw, IsSourceOf, IsSinkOf, CommitsOwn, SetsOwn, IsAllowedBehind, AreAllowed}
 use Rattle.cw_txn.specs.Transactions.{AreNext}
 use Rattle.cw_txn.proofs.Walks.{Each-push}
 use Rattle.cw_txn.proofs.Numbered.{is_committed-numbered}
@@ -56,4 +61,42 @@ allowed-commit entries tag generation spans n allowed next raw_parts raw number 
       few = next.few;
       distinct = next.distinct;
       own = subst (λ (tid : Tid). CommitsOwn tid tag.number (length entries) (map part_of spans)) (sym raw) (number, All-map IsRaw part_of spans raw_parts);
+    })
+
+-- a task's commit that is next, new, under its producer's epoch, of source parts of its connector
+pub allowed-task_commit : (entries : List Entry) (tag : Tag) (generation : ℕ) (spans : List Span) (id : TaskId) → AreAllowed entries
+    → AreNext entries spans → All (λ (span : Span). IsSourceOf id.connector span.part) spans → tag.tid ≡ Task id → is_committed tag entries ≡ false
+    → tag.epoch.0 ≡ epoch_of tag.tid entries → AreAllowed (entries ++ Commit tag generation spans ∷ [])
+allowed-task_commit entries tag generation spans id allowed next sources task new epoch =
+    Each-push IsAllowedBehind entries (Commit tag generation spans) allowed (record {
+      legal = (epoch, new);
+      some = next.some;
+      few = next.few;
+      distinct = next.distinct;
+      own = subst (λ (tid : Tid). CommitsOwn tid tag.number (length entries) (map part_of spans)) (sym task) (All-map (IsSourceOf id.connector) part_of spans sources);
+    })
+
+abbrev pub part_of_set : SetOffset → PartKey
+part_of_set set = set.part
+
+-- the leader's set of parts of one connector, under its epoch
+pub allowed-lead_set : (entries : List Entry) (epoch : Epoch) (list : List SetOffset) (connector : List ℕ) → AreAllowed entries
+    → IsDistinct same_part (map part_of_set list) → All (λ (set : SetOffset). connector_of set.part ≡ Some connector) list
+    → epoch.0 ≡ epoch_of Lead entries → AreAllowed (entries ++ Set Lead epoch list ∷ [])
+allowed-lead_set entries epoch list connector allowed distinct parts last =
+    Each-push IsAllowedBehind entries (Set Lead epoch list) allowed (record {
+      legal = last;
+      distinct = distinct;
+      own = (connector, All-map (λ (part : PartKey). connector_of part ≡ Some connector) part_of_set list parts);
+    })
+
+-- a task's set of sink parts of its connector, under its epoch
+pub allowed-task_set : (entries : List Entry) (id : TaskId) (epoch : Epoch) (list : List SetOffset) → AreAllowed entries
+    → IsDistinct same_part (map part_of_set list) → All (λ (set : SetOffset). IsSinkOf id.connector set.part) list
+    → epoch.0 ≡ epoch_of (Task id) entries → AreAllowed (entries ++ Set (Task id) epoch list ∷ [])
+allowed-task_set entries id epoch list allowed distinct parts last =
+    Each-push IsAllowedBehind entries (Set (Task id) epoch list) allowed (record {
+      legal = last;
+      distinct = distinct;
+      own = All-map (IsSinkOf id.connector) part_of_set list parts;
     })

@@ -1,4 +1,3 @@
-pub mod CommitLemmas
 pub mod Walks
 pub mod Kept
 pub mod Equals
@@ -12,8 +11,7 @@ pub mod Written
 pub mod AllowedLemmas
 pub mod SpanTests
 pub mod WalkLemmas
-pub mod QueueLemmas
 pub mod Noted
 pub mod Mapped
-pub mod LateLemmas
-pub mod PartLemmas
+pub mod MovedRows
+pub mod Beside

@@ -10,17 +10,16 @@ use Rattle.cw_txn.specs.declared.entry.SetOffset.{SetOffset}
 use Rattle.cw_txn.specs.declared.tables.Tables.{Tables}
 use Rattle.cw_txn.specs.Legal.{IsLegal, Chains, IsLegalBehind, ChainsBehind}
 use Rattle.cw_txn.specs.Transactions.{WithoutFirst}
-use Rattle.cw_txn.specs.PartRows.{HasPart, CanSet}
-use Rattle.cw_txn.specs.Tables.{Keeps, HasRows, KeepsRows, SameRows, IsFirstAt, IsCoordinator}
+use Rattle.cw_txn.specs.Tables.{Keeps, HasPart, HasRows, KeepsRows, SameRows, IsFirstAt, IsCoordinator}
 use Rattle.cw_types.proofs.Lists.{cut_at}
 use Rattle.cw_txn.proofs.Walks.{Each-push}
 
 pub HasRows-kept : (old new : Tables) → KeepsRows old new → (entry : Entry) → HasRows old entry → HasRows new entry
 HasRows-kept old new keeps (Bump tid) has = keeps.epochs tid has
 HasRows-kept old new keeps (Commit tag generation spans) has =
-    (keeps.committed tag has.0, All-weaker (λ (span : Span). HasPart old.parts span.part) (λ (span : Span). HasPart new.parts span.part) (λ span. keeps.parts.rows span.part) spans has.1)
+    (keeps.committed tag has.0, All-weaker (λ (span : Span). HasPart old.parts span.part) (λ (span : Span). HasPart new.parts span.part) (λ span. keeps.parts span.part) spans has.1)
 HasRows-kept old new keeps (Set tid epoch list) has =
-    All-weaker (λ (set : SetOffset). CanSet old.parts set.part) (λ (set : SetOffset). CanSet new.parts set.part) (λ set. keeps.parts.settable set.part) list has
+    All-weaker (λ (set : SetOffset). HasPart old.parts set.part) (λ (set : SetOffset). HasPart new.parts set.part) (λ set. keeps.parts set.part) list has
 
 module _ (tables : Tables) (entries reserved : List Entry) (count : ℕ) (was : IsCoordinator tables entries reserved count) where
   -- with tables that read as before
@@ -39,7 +38,7 @@ module _ (tables : Tables) (entries reserved : List Entry) (count : ℕ) (was : 
   }
 
   -- with an entry reserved
-  pub reserved_one : (entry : Entry) (more : List Entry) → more ≡ reserved ++ entry ∷ [] → HasRows tables entry → length entries + length reserved < 2 ^ 31 → IsCoordinator tables entries more count
+  pub reserved_one : (entry : Entry) (more : List Entry) → more ≡ reserved ++ entry ∷ [] → HasRows tables entry → length entries + length reserved + 1 < 2 ^ 64 → IsCoordinator tables entries more count
   reserved_one entry more is has room = rw is record {
     legal = was.legal;
     chains = was.chains;
@@ -52,7 +51,7 @@ module _ (tables : Tables) (entries reserved : List Entry) (count : ℕ) (was : 
   -- with an entry written
   pub settled : (now : Tables) (entry written : Entry) (longer held rest : List Entry) (more : ℕ) → longer ≡ entries ++ entry ∷ [] → Keeps now longer → KeepsRows tables now
       → entries ≡ held → entry ≡ written → IsLegalBehind held written → ((part : PartKey) → ChainsBehind part held written)
-      → ((e : Entry) → Contains rest e → Contains reserved e) → more ≡ count + 1 → length entries + 1 + length rest ≤ 2 ^ 31
+      → ((e : Entry) → Contains rest e → Contains reserved e) → more ≡ count + 1 → length entries + 1 + length rest < 2 ^ 64
       → IsCoordinator now longer rest more
   settled now entry written longer held rest more is kept keeps same one legal chains fewer counted room = record {
     legal = subst IsLegal (sym is) (Each-push IsLegalBehind entries entry was.legal

@@ -1,17 +1,17 @@
 -- What a walk over the spans of a commit finds of their parts' chains.
 use Rattle.std.proofs.Common.{◌≡◌, ℕ, Bool, true, false, ◌&&◌, List, [], ◌∷◌, ◌++◌, IsTrue, ◌↔◌, refl, sym, subst}
 use Rattle.std.specs.List.{fold}
+use Rattle.std.specs.BTreeMap.{BTreeMap}
 use Rattle.cw_types.specs.declared.ids.PartKey.{PartKey}
 use Rattle.cw_types.specs.declared.ids.Tag.{Tag}
 use Rattle.cw_types.specs.declared.ids.Span.{Span}
 use Rattle.cw_txn.specs.declared.entry.Entry.{Entry}
 use Rattle.cw_txn.specs.declared.entry.Entry.TheVariants.{Commit}
 use Rattle.cw_txn.specs.declared.history.History.{History}
+use Rattle.cw_txn.specs.declared.tables.Tables.{Tables}
 use Rattle.cw_types.specs.Same.{same_part}
 use Rattle.cw_txn.specs.History.{GoesOn, SpansChain, after_span}
-use Rattle.cw_txn.specs.declared.parts.Parts.{Parts}
-use Rattle.cw_txn.specs.PartRows.{history_at}
-use Rattle.cw_txn.specs.Tables.{AreHistories}
+use Rattle.cw_txn.specs.Tables.{Keeps, history_at}
 use Rattle.cw_txn.specs.Walk.{IsSpanTest, IsChainTest}
 use Rattle.cw_types.proofs.SameLemmas.{same_part-Decides}
 
@@ -31,7 +31,7 @@ module _ (part : PartKey) (span : Span) where
   SpansChain-last h [] chain same = chain.0 same
   SpansChain-last h (s ∷ spans) chain same = SpansChain-last (after_span part h s) spans chain.1 same
 
-module _ (old new : Parts) (spans : List Span) (span : Span) (moved : (part : PartKey) → history_at new part ≡ fold (after_span part) (history_at old part) spans) where
+module _ (old new : BTreeMap PartKey History) (spans : List Span) (span : Span) (moved : (part : PartKey) → history_at new part ≡ fold (after_span part) (history_at old part) spans) where
   goes_on_of : GoesOn (history_at new span.part) span → (part : PartKey) → same_part part span.part ≡ true → GoesOn (fold (after_span part) (history_at old part) spans) span
   goes_on_of on part same =
       let here : GoesOn (history_at new part) span = subst (λ (q : PartKey). GoesOn (history_at new q) span) (sym ((same_part-Decides part span.part).0 same)) on in
@@ -49,8 +49,8 @@ module _ (old new : Parts) (spans : List Span) (span : Span) (moved : (part : Pa
   span_test-push false on test goes = (test.0, λ chain. test.1 (SpansChain-front test.0 span (history_at old test.0) spans chain))
 
 -- what the test of the spans says of their commit
-pub chain_test : (parts : Parts) (before : List Entry) → AreHistories parts before → (tag : Tag) (generation : ℕ) (spans : List Span) (chains : Bool)
-    → IsSpanTest parts spans chains → IsChainTest before (Commit tag generation spans) chains
-chain_test parts before are tag generation spans true test = λ part. subst (λ (h : History). SpansChain part h spans) (are part) (test part)
-chain_test parts before are tag generation spans false test =
-    (test.0, λ chain. test.1 (subst (λ (h : History). SpansChain test.0 h spans) (sym (are test.0)) chain))
+pub chain_test : (tables : Tables) (before : List Entry) → Keeps tables before → (tag : Tag) (generation : ℕ) (spans : List Span) (chains : Bool)
+    → IsSpanTest tables.parts spans chains → IsChainTest before (Commit tag generation spans) chains
+chain_test tables before kept tag generation spans true test = λ part. subst (λ (h : History). SpansChain part h spans) (kept.parts part) (test part)
+chain_test tables before kept tag generation spans false test =
+    (test.0, λ chain. test.1 (subst (λ (h : History). SpansChain test.0 h spans) (sym (kept.parts test.0)) chain))

@@ -1,22 +1,21 @@
 -- One entry more on a walk over a list.
-use Rattle.std.proofs.Common.{◌≡◌, ℕ, suc, ◌+◌, ◌<◌, ◌≤◌, ◌^◌, List, [], ◌∷◌, ◌++◌, length, get_or, slice_index_or, Option, Some, None, is_some, true, false, cond, nat_eq, refl, ap, subst, ◌∙◌, arith, append_assoc, length-append}
-use Rattle.std.proofs.lemmas.List.{get_or_append_left, get_or-append-add}
+use Rattle.std.proofs.Common.{◌≡◌, ℕ, suc, ◌+◌, ◌-◌, ◌<◌, ◌≤◌, ◌^◌, List, [], ◌∷◌, ◌++◌, length, replicate, get_or, slice_index_or, Option, Some, None, is_some, true, false, refl, ap, subst, ◌∙◌, arith, append_assoc, length-append}
+use Rattle.std.proofs.lemmas.List.{get_or_append_left, get_or-append-add, replicate_more}
 use Rattle.cw_types.specs.declared.ids.PartKey.{PartKey}
-use Rattle.cw_types.specs.declared.ids.Tid.{Tid}
-use Rattle.cw_types.specs.declared.ids.Tid.TheVariants.{Raw}
+use Rattle.cw_bytes.specs.Unread.{Unread, AreBytes}
+use Rattle.cw_bytes.specs.Reading.{many_at}
+use Rattle.cw_bytes.proofs.Many.{with_front}
+use Rattle.cw_txn.specs.BodyReading.{entry_at, body_at}
+use Rattle.cw_txn.specs.Replayed.{Replayed, TakesBody}
 use Rattle.cw_txn.specs.declared.entry.Entry.{Entry}
-use Rattle.cw_txn.specs.declared.entry.Entry.TheVariants.{Bump}
 use Rattle.cw_txn.specs.declared.tables.Tables.{Tables}
-use Rattle.cw_txn.specs.declared.walk.Walk.{Walk}
+use Rattle.cw_txn.specs.declared.replay.Walk.{Walk}
 use Rattle.cw_txn.specs.Legal.{Chains, ChainsBehind}
 use Rattle.cw_txn.specs.Allowed.{IsAllowedBehind, AreAllowed, IsFirstNotAllowed, IsFirstUnchained}
-use Rattle.cw_tables.specs.declared.shelves.Shelves.{Shelves}
-use Rattle.cw_tables.specs.Waiting.{waits}
-use Rattle.cw_txn.specs.Tables.{IsCoordinator}
-use Rattle.cw_txn.specs.Late.{Lags}
-use Rattle.cw_txn.proofs.LateLemmas.{caught_up, lags_bump}
-use Rattle.cw_txn.specs.Walk.{HasGate, ChainsUpTo, AreWalked, Found, Walked}
+use Rattle.cw_txn.specs.Tables.{Keeps, IsCoordinator}
+use Rattle.cw_txn.specs.Walk.{HasGate, ChainsUpTo, AreWalked, Found, Walked, Took}
 use Rattle.cw_txn.proofs.Walks.{Each-push}
+use Rattle.cw_txn.proofs.Bodies.{body_takes}
 use Rattle.cw_txn.proofs.AllowedLemmas.{allowed_is_legal}
 
 module _ (entries : List Entry) (gates : List ℕ) (entry : Entry) (gate : ℕ) (aligned : length gates ≡ length entries) where
@@ -78,10 +77,10 @@ module _ (entries : List Entry) (gates : List ℕ) (entry : Entry) (gate : ℕ) 
   )
 
   -- behind an entry that isn't allowed
-  pub stays_found : (not_allowed unchained : Option ℕ) (tables : Tables) (late : Shelves) → is_some not_allowed ≡ true → Found not_allowed tables late entries gates unchained
-      → Found not_allowed tables late (entries ++ entry ∷ []) (gates ++ gate ∷ []) unchained
-  stays_found None unchained tables late some found = absurd cc
-  stays_found (Some first) unchained tables late some found = still_not_allowed first found
+  pub stays_found : (not_allowed unchained : Option ℕ) (tables : Tables) → is_some not_allowed ≡ true → Found not_allowed tables entries gates unchained
+      → Found not_allowed tables (entries ++ entry ∷ []) (gates ++ gate ∷ []) unchained
+  stays_found None unchained tables some found = absurd cc
+  stays_found (Some first) unchained tables some found = still_not_allowed first found
 
   -- this one isn't allowed
   pub not_allowed_here : AreAllowed entries → ¬ IsAllowedBehind entries entry → HasGate (IsFirstNotAllowed (entries ++ entry ∷ [])) (gates ++ gate ∷ []) gate
@@ -100,74 +99,83 @@ module _ (entries : List Entry) (gates : List ℕ) (entry : Entry) (gate : ℕ) 
   )
 
   -- this one is allowed
-  pub walked_on : (old new : Tables) (late after_late : Shelves) (first after not_allowed : Option ℕ) → AreWalked old late entries gates first → is_some not_allowed ≡ false → IsAllowedBehind entries entry
-      → Lags new after_late (entries ++ entry ∷ [])
-      → (ChainsUpTo entries gates first → ChainsUpTo (entries ++ entry ∷ []) (gates ++ gate ∷ []) after) → Found not_allowed new after_late (entries ++ entry ∷ []) (gates ++ gate ∷ []) after
-  walked_on old new late after_late first after None walked none allowed lags later = record {
+  pub walked_on : (old new : Tables) (first after not_allowed : Option ℕ) → AreWalked old entries gates first → is_some not_allowed ≡ false → IsAllowedBehind entries entry
+      → ((l : List Entry) → Keeps old l → Keeps new (l ++ entry ∷ []))
+      → (ChainsUpTo entries gates first → ChainsUpTo (entries ++ entry ∷ []) (gates ++ gate ∷ []) after) → Found not_allowed new (entries ++ entry ∷ []) (gates ++ gate ∷ []) after
+  walked_on old new first after None walked none allowed added later = record {
     allowed = Each-push IsAllowedBehind entries entry walked.allowed allowed;
-    lags = lags;
+    kept = added entries walked.kept;
     chained = later walked.chained;
   }
-  walked_on old new late after_late first after (Some gate) walked none allowed lags later = absurd cc
-
--- a bump changes no chain
-bump_chains : (entries : List Entry) (gates : List ℕ) (tid : Tid) (gate : ℕ) → length gates ≡ length entries → (unchained : Option ℕ) → ChainsUpTo entries gates unchained → ChainsUpTo (entries ++ Bump tid ∷ []) (gates ++ gate ∷ []) unchained
-bump_chains entries gates tid gate aligned None chains = still_chains entries gates (Bump tid) gate aligned chains (λ part. tt)
-bump_chains entries gates tid gate aligned (Some first) chains = still_first entries gates (Bump tid) gate aligned first chains
-
--- one bump more waits
-pub found_put_off : (entries : List Entry) (gates : List ℕ) (number gate : ℕ) → length gates ≡ length entries → (not_allowed unchained : Option ℕ) (tables : Tables) (late after : Shelves)
-    → ((q : ℕ) → waits after q ≡ waits late q + cond (nat_eq number q) 1 0) → Found not_allowed tables late entries gates unchained
-    → Found not_allowed tables after (entries ++ Bump (Raw number) ∷ []) (gates ++ gate ∷ []) unchained
-found_put_off entries gates number gate aligned None unchained tables late after put found =
-    walked_on entries gates (Bump (Raw number)) gate aligned tables tables late after unchained unchained None found refl tt (lags_bump tables late entries after number put found.lags) (bump_chains entries gates (Raw number) gate aligned unchained)
-found_put_off entries gates number gate aligned (Some first) unchained tables late after put found =
-    stays_found entries gates (Bump (Raw number)) gate aligned (Some first) unchained tables late refl found
+  walked_on old new first after (Some gate) walked none allowed added later = absurd cc
 
 -- where all are allowed so far
-pub so_far : (not_allowed unchained : Option ℕ) (tables : Tables) (late : Shelves) (entries : List Entry) (gates : List ℕ) → is_some not_allowed ≡ false
-    → Found not_allowed tables late entries gates unchained → AreWalked tables late entries gates unchained
-so_far None unchained tables late entries gates none found = found
-so_far (Some first) unchained tables late entries gates none found = absurd cc
+pub so_far : (not_allowed unchained : Option ℕ) (tables : Tables) (entries : List Entry) (gates : List ℕ) → is_some not_allowed ≡ false
+    → Found not_allowed tables entries gates unchained → AreWalked tables entries gates unchained
+so_far None unchained tables entries gates none found = found
+so_far (Some first) unchained tables entries gates none found = absurd cc
+
+-- one entry more than those taken
+pub took_more : (group : List Entry) (entry : Entry) (gate : ℕ) (old mid new : Walk) → Took group gate old mid → Took (entry ∷ []) gate mid new → Took (group ++ entry ∷ []) gate old new
+took_more group entry gate old mid new took one = record {
+  entries = one.entries ∙ ap (λ (l : List Entry). l ++ entry ∷ []) took.entries ∙ append_assoc old.entries.items group (entry ∷ []);
+  gates = one.gates ∙ ap (λ (l : List ℕ). l ++ gate ∷ []) took.gates ∙ append_assoc old.gates.items (replicate (length group) gate) (gate ∷ [])
+      ∙ ap (λ (l : List ℕ). old.gates.items ++ l) (replicate_more (length group) gate ∙ ap (λ (n : ℕ). replicate n gate) (simp length-append));
+  walked = one.walked;
+}
+
+-- of so many entries these were taken, and others are still read
+pub record TakesMany (group : List Entry) (gate count i : ℕ) (first from : Unread) (old walk : Walk) : Type 0 where
+  pub reads : with_front entry_at group (many_at entry_at (count - i) from) ≡ many_at entry_at count first
+  pub took : Took group gate old walk
+
+-- a body's entries were taken
+pub takes_body : (body : List ℕ) (gate : ℕ) (group : List Entry) (old new : Walk) → AreBytes body → body_at body ≡ Some group → Took group gate old new
+    → TakesBody body gate (record { entries = old.entries.items; gates = old.gates.items }) (record { entries = new.entries.items; gates = new.gates.items })
+takes_body body gate group old new fits read took =
+    let is = body_takes body group fits read in
+    record { group = group; are = is.0; spelled = is.1; entries = took.entries; gates = took.gates }
 
 -- what a walk found, by cases
-module _ (tables : Tables) (late : Shelves) (entries : List Entry) (gates : List ℕ) where
-  found_not_allowed : (not_allowed unchained : Option ℕ) (gate : ℕ) → Found not_allowed tables late entries gates unchained → not_allowed ≡ Some gate
+module _ (tables : Tables) (entries : List Entry) (gates : List ℕ) where
+  found_not_allowed : (not_allowed unchained : Option ℕ) (gate : ℕ) → Found not_allowed tables entries gates unchained → not_allowed ≡ Some gate
       → HasGate (IsFirstNotAllowed entries) gates gate
   found_not_allowed None unchained gate found is = absurd cc
   found_not_allowed (Some first) unchained gate found is = let same : first ≡ gate = cc in subst (HasGate (IsFirstNotAllowed entries) gates) same found
 
-  found_unchained : (not_allowed unchained : Option ℕ) (gate : ℕ) → Found not_allowed tables late entries gates unchained → not_allowed ≡ None → unchained ≡ Some gate
+  found_unchained : (not_allowed unchained : Option ℕ) (gate : ℕ) → Found not_allowed tables entries gates unchained → not_allowed ≡ None → unchained ≡ Some gate
       → AreAllowed entries × HasGate (IsFirstUnchained entries) gates gate
   found_unchained None None gate found allowed is = absurd cc
   found_unchained None (Some first) gate found allowed is = let same : first ≡ gate = cc in (found.allowed, subst (HasGate (IsFirstUnchained entries) gates) same found.chained)
   found_unchained (Some other) unchained gate found allowed is = absurd cc
 
--- what the faults of a walk say of its entries
-module _ (walk : Walk) (walked : Walked walk) where
-  pub names_not_allowed : (gate : ℕ) → walk.not_allowed ≡ Some gate → HasGate (IsFirstNotAllowed walk.entries.items) walk.gates.items gate
-  names_not_allowed gate found = found_not_allowed walk.tables walk.late walk.entries.items walk.gates.items walk.not_allowed walk.unchained gate walked.found found
+-- what the faults of a replay say of its meaning
+module _ (walk : Walk) (was : Replayed) (walked : Walked walk) (is : record { entries = walk.entries.items; gates = walk.gates.items } ≡ was) where
+  pub names_not_allowed : (gate : ℕ) → walk.not_allowed ≡ Some gate → (place : ℕ) × IsFirstNotAllowed was.entries place × (slice_index_or was.gates place gate ≡ gate)
+  names_not_allowed gate found = subst (λ (r : Replayed). HasGate (IsFirstNotAllowed r.entries) r.gates gate) is
+      (found_not_allowed walk.tables walk.entries.items walk.gates.items walk.not_allowed walk.unchained gate walked.found found)
 
   pub names_unchained : (gate : ℕ) → walk.not_allowed ≡ None → walk.unchained ≡ Some gate
-      → (place : ℕ) × AreAllowed walk.entries.items × IsFirstUnchained walk.entries.items place × (slice_index_or walk.gates.items place gate ≡ gate)
+      → (place : ℕ) × AreAllowed was.entries × IsFirstUnchained was.entries place × (slice_index_or was.gates place gate ≡ gate)
   names_unchained gate allowed found =
-      let (each, (place, first, at)) = found_unchained walk.tables walk.late walk.entries.items walk.gates.items walk.not_allowed walk.unchained gate walked.found allowed found in
+      let (each, (place, first, at)) = subst (λ (r : Replayed). AreAllowed r.entries × HasGate (IsFirstUnchained r.entries) r.gates gate) is
+      (found_unchained walk.tables walk.entries.items walk.gates.items walk.not_allowed walk.unchained gate walked.found allowed found) in
       (place, each, first, at)
 
 -- a walk that found no fault is a coordinator's
-coordinates : (not_allowed unchained : Option ℕ) (tables : Tables) (late : Shelves) (entries : List Entry) (gates : List ℕ) (count : ℕ) → ((q : ℕ) → waits late q ≡ 0) → Found not_allowed tables late entries gates unchained
-    → not_allowed ≡ None → unchained ≡ None → count ≡ length entries → count ≤ 2 ^ 31 → IsCoordinator tables entries [] count
-coordinates None None tables late entries gates count empty found allowed chained counted few = record {
+coordinates : (not_allowed unchained : Option ℕ) (tables : Tables) (entries : List Entry) (gates : List ℕ) (count : ℕ) → Found not_allowed tables entries gates unchained
+    → not_allowed ≡ None → unchained ≡ None → count ≡ length entries → count < 2 ^ 64 → IsCoordinator tables entries [] count
+coordinates None None tables entries gates count found allowed chained counted few = record {
   legal = allowed_is_legal entries found.allowed;
   chains = found.chained;
-  kept = caught_up tables late entries empty found.lags;
+  kept = found.kept;
   rows = λ entry there. absurd (omega arith);
   counted = counted;
   few = omega arith;
 }
-coordinates None (Some gate) tables late entries gates count empty found allowed chained counted few = absurd cc
-coordinates (Some gate) unchained tables late entries gates count empty found allowed chained counted few = absurd cc
+coordinates None (Some gate) tables entries gates count found allowed chained counted few = absurd cc
+coordinates (Some gate) unchained tables entries gates count found allowed chained counted few = absurd cc
 
-pub is_coordinator : (walk : Walk) → Walked walk → ((q : ℕ) → waits walk.late q ≡ 0) → walk.not_allowed ≡ None → walk.unchained ≡ None → IsCoordinator walk.tables walk.entries.items [] walk.length
-is_coordinator walk walked empty allowed chained =
-    coordinates walk.not_allowed walk.unchained walk.tables walk.late walk.entries.items walk.gates.items walk.length empty walked.found allowed chained walked.counted walked.few
+pub is_coordinator : (walk : Walk) → Walked walk → walk.not_allowed ≡ None → walk.unchained ≡ None → IsCoordinator walk.tables walk.entries.items [] walk.length
+is_coordinator walk walked allowed chained =
+    coordinates walk.not_allowed walk.unchained walk.tables walk.entries.items walk.gates.items walk.length walked.found allowed chained walked.counted walked.few

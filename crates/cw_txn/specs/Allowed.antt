@@ -56,9 +56,9 @@ pub record IsAllowedCommit (before : List Entry) (tag : Tag) (generation : ℕ) 
   pub distinct : IsDistinct same_part (map (λ span. span.part) spans)
   pub own : CommitsOwn tag.tid tag.number (length before) (map (λ span. span.part) spans)
 
--- a set of parts, none named twice
-pub record IsAllowedSet (before : List Entry) (tid : Tid) (epoch : Entry) (list : List SetOffset) : Type 0 where
-  pub legal : IsLegalBehind before epoch
+-- a set of parts, none named twice; the whole of it is an entry
+pub record IsAllowedSet (before : List Entry) (tid : Tid) (whole : Entry) (list : List SetOffset) : Type 0 where
+  pub legal : IsLegalBehind before whole
   pub distinct : IsDistinct same_part (map (λ set. set.part) list)
   pub own : SetsOwn tid (map (λ set. set.part) list)
 

@@ -1,4 +1,4 @@
--- The bytes of a body of the transaction log: how many entries, and then each of them. The format is this project's own.
+-- The bytes of a body of the transaction log: how many entries, and then each of them. The format is this project's.
 use Rattle.std.specs.Prelude.{ℕ, ◌<◌, ◌≤◌, ◌^◌, List, [], ◌∷◌, ◌++◌, length, Option, Some, None}
 use Rattle.std.specs.Bool.{⊤}
 use Rattle.std.specs.List.{flat_map, AllByRecursion}

@@ -63,7 +63,9 @@ set_entry_at from = do
 unfoldable pub entry_at : Unread → Read Entry
 entry_at from = do
   kind ← byte_at from
-  if kind.0 == 1 then bump_at kind.1 else if kind.0 == 2 then commit_at kind.1 else if kind.0 == 3 then set_entry_at kind.1 else Err (BadKind kind.0)
+  if kind.0 == 1 then bump_at kind.1
+      else if kind.0 == 2 then commit_at kind.1
+      else if kind.0 == 3 then set_entry_at kind.1 else Err (BadKind kind.0)
 
 -- how many entries, which are some
 unfoldable pub count_at : Unread → Read ℕ

@@ -1,5 +1,6 @@
 -- What is committed of a part: where its offsets begin (base) and where its last commit ended (end).
--- The transaction list is walked from its first entry on, as a consumer of Kafka's transaction topic would (KIP-618). The two numbers are this project's own.
+-- The transaction list is walked from its first entry on, as a consumer of Kafka's transaction topic would (KIP-618).
+-- The two numbers are this project's own.
 use Rattle.std.specs.Prelude.{◌≡◌, ℕ, ◌<◌, true, List, [], ◌∷◌, Option, Some, None, unwrap_or, if◌then◌else◌}
 use Rattle.std.specs.Bool.{⊤}
 use Rattle.std.specs.List.{fold}
@@ -48,4 +49,5 @@ GoesOn h span = (span.from ≡ unwrap_or h.end 0) × (span.from < span.to)
 -- each of these spans of the part goes on from those before it
 abbrev pub SpansChain : PartKey → History → List Span → Type 0
 SpansChain part h [] = ⊤
-SpansChain part h (span ∷ spans) = (same_part part span.part ≡ true → GoesOn h span) × SpansChain part (after_span part h span) spans
+SpansChain part h (span ∷ spans) =
+    (same_part part span.part ≡ true → GoesOn h span) × SpansChain part (after_span part h span) spans

@@ -1,5 +1,5 @@
--- Which lists of entries a transaction coordinator may hold (KIP-618, fencing by epochs): nobody writes under an epoch that was bumped away,
--- no transaction is committed twice, and each part's spans chain.
+-- Which lists of entries a transaction coordinator may hold (KIP-618, fencing by epochs): nobody writes under an epoch
+-- that was bumped away, no transaction is committed twice, and each part's spans chain.
 use Rattle.std.specs.Prelude.{◌≡◌, ℕ, Bool, false, List, [], ◌∷◌, ◌++◌, length, nat_lt, if◌then◌else◌}
 use Rattle.std.specs.Bool.{⊤}
 use Rattle.std.specs.List.{count_by, list_any}
@@ -36,12 +36,14 @@ is_committed tag entries = list_any (is_commit_of tag) entries
 
 -- how a transaction ended: committed, or aborted where its producer has a later epoch
 abbrev pub verdict_of : List Entry → Tag → Verdict
-verdict_of entries tag = if is_committed tag entries then Committed else if nat_lt tag.epoch.0 (epoch_of tag.tid entries) then Aborted else Open
+verdict_of entries tag =
+    if is_committed tag entries then Committed
+    else if nat_lt tag.epoch.0 (epoch_of tag.tid entries) then Aborted else Open
 
--- a fact of each entry, and of all those before it
-abbrev pub EachFrom : (List Entry → Entry → Type 0) → List Entry → List Entry → Type 0
+-- a fact of each of a list, and of all those before it
+abbrev pub EachFrom : {A : Type 0} → (List A → A → Type 0) → List A → List A → Type 0
 EachFrom P before [] = ⊤
-EachFrom P before (entry ∷ entries) = P before entry × EachFrom P (before ++ entry ∷ []) entries
+EachFrom P before (x ∷ xs) = P before x × EachFrom P (before ++ x ∷ []) xs
 
 -- the same, from the first entry on
 abbrev pub Each : (List Entry → Entry → Type 0) → List Entry → Type 0
@@ -50,7 +52,8 @@ Each P entries = EachFrom P [] entries
 -- an entry is written under its producer's epoch, and commits what isn't committed
 abbrev pub IsLegalBehind : List Entry → Entry → Type 0
 IsLegalBehind before (Bump tid) = ⊤
-IsLegalBehind before (Commit tag generation spans) = (tag.epoch.0 ≡ epoch_of tag.tid before) × (is_committed tag before ≡ false)
+IsLegalBehind before (Commit tag generation spans) =
+    (tag.epoch.0 ≡ epoch_of tag.tid before) × (is_committed tag before ≡ false)
 IsLegalBehind before (Set tid epoch list) = epoch.0 ≡ epoch_of tid before
 
 -- each entry is legal at its place

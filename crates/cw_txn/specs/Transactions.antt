@@ -1,4 +1,5 @@
--- What a transaction coordinator is to its callers: the list of entries, and entries for which room was made before they are written.
+-- What a transaction coordinator is to its callers: the list of entries, and entries for which room was made before
+-- they are written.
 use Rattle.std.specs.Prelude.{◌≡◌, ℕ, List, [], ◌∷◌, ◌++◌, length, map, ◌≤◌, All, Contains, IsSome, Some, ◌⊎◌}
 use Rattle.std.specs.List.{IsDistinct}
 use Rattle.cw_types.specs.declared.ids.PartKey.{PartKey}
@@ -39,5 +40,6 @@ pub record AreNext (entries : List Entry) (spans : List Span) : Type 0 where
 -- these are the parts of a connector that have an end
 pub record ArePartsOf (connector : List ℕ) (entries : List Entry) (parts : List PartKey) : Type 0 where
   pub each_once : IsDistinct same_part parts
-  pub theirs : (part : PartKey) → Contains parts part → (connector_of part ≡ Some connector) × IsSome (end_of part entries)
+  pub theirs : (part : PartKey) → Contains parts part →
+      (connector_of part ≡ Some connector) × IsSome (end_of part entries)
   pub all : (part : PartKey) → connector_of part ≡ Some connector → IsSome (end_of part entries) → Contains parts part

@@ -2,57 +2,49 @@
 ghost use Rattle.std.specs.Prelude.{◌≡◌, ◌↔◌, IsTrue, IfOk, OnOk, All, List, ℕ, map, length, Some, true, is_none, if◌then◌else◌};
 ghost use Rattle.std.specs.List.{IsDistinct};
 ghost use Rattle.std.specs.Option.{option_copied};
-ghost use Rattle.std.specs.HashMap.{get};
+ghost use Rattle.std.specs.BTreeMap.{get, is_at};
 ghost use Rattle.cw_types.specs.declared.ids.PartKey.{PartKey};
 ghost use Rattle.cw_types.specs.declared.ids.Span.{Span};
 ghost use Rattle.cw_txn.specs.declared.entry.Entry.{Entry};
 ghost use Rattle.cw_txn.specs.declared.entry.SetOffset.{SetOffset};
-ghost use Rattle.cw_types.specs.Same.{same_part, part_eq, connector_of};
+ghost use Rattle.cw_types.specs.Same.{same_part, connector_of, part_order};
 ghost use Rattle.cw_txn.specs.Allowed.{IsRaw, IsSourceOf, IsSinkOf, CommitsOwn, SetsOwn, IsAllowedBehind, IsAllowedCommit, IsAllowedSet};
-ghost use Rattle.cw_txn.specs.Tables.{is_of};
-ghost use Rattle.cw_txn.specs.Late.{Lags};
+ghost use Rattle.cw_txn.specs.Tables.{Keeps, is_of};
 
 use crate::coordinator::have_distinct_parts;
 use crate::entry::{Entry, SetOffset};
-use crate::tables::{Tables, is_of, same_names};
-use cw_tables::Shelves;
+use crate::parts::{is_of, same_names};
+use crate::tables::Tables;
 use cw_types::{Epoch, Name, PartKey, Span, Tag, Tid};
 use std::alloc::{AllocError, Global};
-use std::collections::HashMap;
+use std::collections::BTreeMap;
 
-/// Whether an entry may stand at this place, behind those of the tables and the bumps that wait.
+// Whether an entry may stand at this place, behind those of the tables.
 pub fn is_allowed(
     alloc: Global,
     tables: &Tables,
-    late: &Shelves,
     place: usize,
     entry: &Entry,
 ) -> Result<bool, AllocError>
-    ensures { IfOk result (λ allowed. (before : List Entry) → Lags tables.now late.now before → length before ≡ place →
+    ensures { IfOk result (λ allowed. (before : List Entry) → Keeps tables.now before → length before ≡ place →
         IsTrue allowed ↔ IsAllowedBehind before entry.now) }
 {
     match entry {
         Entry::Bump(_) => Ok(true),
         Entry::Commit { tag, spans, .. } => {
-            Ok(is_allowed_commit(tables, late, place, tag, spans.as_slice()))
+            Ok(is_allowed_commit(tables, place, tag, spans.as_slice()))
         }
         Entry::Set { tid, epoch, list } => {
-            is_allowed_set(alloc, tables, late, tid, *epoch, list.as_slice())
+            is_allowed_set(alloc, tables, tid, *epoch, list.as_slice())
         }
     }
 }
 
-fn is_allowed_commit(
-    tables: &Tables,
-    late: &Shelves,
-    place: usize,
-    tag: &Tag,
-    spans: &[Span],
-) -> bool
-    ensures { (before : List Entry) (generation : ℕ) → Lags tables.now late.now before → length before ≡ place →
+fn is_allowed_commit(tables: &Tables, place: usize, tag: &Tag, spans: &[Span]) -> bool
+    ensures { (before : List Entry) (generation : ℕ) → Keeps tables.now before → length before ≡ place →
         IsTrue result ↔ IsAllowedCommit before tag.now generation spans.now }
 {
-    tag.epoch.0 == tables.epochs.epoch_with(late, &tag.tid)
+    tag.epoch.0 == tables.epoch(&tag.tid)
         && !tables.is_committed(tag)
         && !spans.is_empty()
         && spans.len() <= 16
@@ -63,16 +55,15 @@ fn is_allowed_commit(
 fn is_allowed_set(
     alloc: Global,
     tables: &Tables,
-    late: &Shelves,
     tid: &Tid,
     epoch: Epoch,
     list: &[SetOffset],
 ) -> Result<bool, AllocError>
-    ensures { IfOk result (λ allowed. (before : List Entry) → Lags tables.now late.now before →
+    ensures { IfOk result (λ allowed. (before : List Entry) → Keeps tables.now before →
         IsTrue allowed ↔ IsAllowedSet before tid.now (Entry.Set tid.now epoch list.now) list.now) }
 {
     let distinct = are_of_distinct_parts(alloc, list)?;
-    Ok(distinct && epoch.0 == tables.epochs.epoch_with(late, tid) && sets_own(tid, list))
+    Ok(distinct && epoch.0 == tables.epoch(tid) && sets_own(tid, list))
 }
 
 // Whether the spans are of the producer's own parts, and a script's number is its place.
@@ -197,7 +188,7 @@ fn is_sink_of(connector: &Name, part: &PartKey) -> bool
 fn are_of_distinct_parts(alloc: Global, list: &[SetOffset]) -> Result<bool, AllocError>
     ensures { IfOk result (λ distinct. IsTrue distinct ↔ IsDistinct same_part (map (λ set. set.part) list.now)) }
 {
-    let mut noted = HashMap::new(alloc);
+    let mut noted = BTreeMap::new(alloc);
     for set in list {
         let first = note(&mut noted, &set.part)?;
         if !first {
@@ -208,10 +199,10 @@ fn are_of_distinct_parts(alloc: Global, list: &[SetOffset]) -> Result<bool, Allo
 }
 
 // Notes a part, and says whether it is a new one.
-fn note(noted: &mut HashMap<PartKey, bool>, part: &PartKey) -> Result<bool, AllocError>
-    ensures new { IfOk result (λ new. new ≡ is_none (get part_eq noted.old part.now)) }
-    ensures noted { OnOk result ((q : PartKey) → get part_eq noted.new q ≡
-        (if part_eq part.now q then Some true else get part_eq noted.old q)) }
+fn note(noted: &mut BTreeMap<PartKey, bool>, part: &PartKey) -> Result<bool, AllocError>
+    ensures new { IfOk result (λ new. new ≡ is_none (get part_order noted.old part.now)) }
+    ensures noted { OnOk result ((q : PartKey) → get part_order noted.new q ≡
+        (if is_at (part_order part.now) q then Some true else get part_order noted.old q)) }
 {
     let earlier = noted.insert(part.copy()?, true)?;
     Ok(earlier.is_none())

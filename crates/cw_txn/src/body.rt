@@ -1,6 +1,5 @@
 //! Bodies of the transaction log.
-ghost use Rattle.std.specs.Prelude.{◌≡◌, ◌≢◌, ◌++◌, ◌∷◌, [], List, length, Some, None, Ok, Err, IfSome, IfOk, OnOk, MatchResult, ◌<◌, ◌^◌};
-ghost use Rattle.cw_types.specs.declared.ids.Tid.{Tid};
+ghost use Rattle.std.specs.Prelude.{◌≡◌, ◌≢◌, ◌++◌, List, length, Some, None, Ok, Err, IfOk, OnOk, MatchResult, ◌<◌, ◌^◌};
 ghost use Rattle.cw_bytes.specs.Reading.{Gives, many_at, span_at};
 ghost use Rattle.cw_txn.specs.declared.entry.Entry.{Entry};
 ghost use Rattle.cw_txn.specs.declared.body.BodyFault.{BodyFault};
@@ -10,21 +9,24 @@ ghost use Rattle.cw_txn.specs.BodyReading.{some_offset_at, offset_at, set_at, li
 
 use crate::entry::{Entry, SetOffset};
 use cw_bytes::{
-    FieldFault, Reader, Writer, read_part, read_span_onto, read_tag, read_tid, write_part,
-    write_span, write_tag, write_tid,
+    FieldFault, Reader, Writer, read_part, read_span, read_tag, read_tid, write_part, write_span,
+    write_tag, write_tid,
 };
 use cw_types::{Epoch, Listed, Span};
 use std::alloc::{AllocError, Global};
+use thiserror::Error;
 
 // For so many elements room is made before they are read, so that a short list takes no more than it needs.
 const MOST_AT_ONCE: u32 = 16;
 
 /// Why a body has no entries.
-#[derive(Clone, Copy, Debug, PartialEq, Eq, Drop)]
+#[derive(Clone, Copy, Debug, PartialEq, Eq, Drop, Error)]
 pub enum BodyFault {
     /// It isn't the bytes of any entries.
+    #[error("the bytes are no entries")]
     NotEntries,
     /// Want of memory.
+    #[error("out of memory")]
     Memory,
 }
 
@@ -41,17 +43,6 @@ impl From<FieldFault> for BodyFault {
             FieldFault::BadKind(_) => BodyFault::NotEntries,
             FieldFault::BadName(_) => BodyFault::NotEntries,
         }
-    }
-}
-
-impl From<AllocError> for BodyFault {
-    ghost use Rattle.std.specs.Prelude.{◌≡◌};
-    ghost use Rattle.cw_txn.specs.declared.body.BodyFault.TheVariants.{Memory};
-
-    ghost from_gives = { λ _ fault. fault ≡ Memory };
-
-    fn from(_: AllocError) -> Self {
-        BodyFault::Memory
     }
 }
 
@@ -83,7 +74,6 @@ fn read_set(alloc: Global, from: &mut Reader<'_>) -> Result<SetOffset, FieldFaul
     Ok(SetOffset { part, to })
 }
 
-#[inline]
 fn read_many_spans(
     alloc: Global,
     count: u32,
@@ -93,7 +83,8 @@ fn read_many_spans(
 {
     let mut spans = Vec::with_capacity(alloc, count.min(MOST_AT_ONCE) as usize)?;
     for _ in 0..count {
-        read_span_onto(alloc, from, &mut spans)?;
+        let span = read_span(alloc, from)?;
+        spans.push(span)?;
     }
     Ok(spans)
 }
@@ -129,7 +120,6 @@ fn read_many_entries(
 }
 
 #[tactic(auto, unfolding(crate::specs::BodyReading::list_at))]
-#[inline]
 fn read_spans(alloc: Global, from: &mut Reader<'_>) -> Result<Listed<Span>, FieldFault>
     ensures { Gives (λ spans. (spans, from.new)) result (list_at span_at from.old) }
 {
@@ -148,7 +138,6 @@ fn read_sets(alloc: Global, from: &mut Reader<'_>) -> Result<Listed<SetOffset>, 
 }
 
 #[tactic(auto, unfolding(crate::specs::BodyReading::bump_at))]
-#[inline]
 fn read_bump(alloc: Global, from: &mut Reader<'_>) -> Result<Entry, FieldFault>
     ensures { Gives (λ entry. (entry, from.new)) result (bump_at from.old) }
 {
@@ -157,7 +146,6 @@ fn read_bump(alloc: Global, from: &mut Reader<'_>) -> Result<Entry, FieldFault>
 }
 
 #[tactic(auto, unfolding(crate::specs::BodyReading::commit_at, crate::specs::BodyReading::spans_at))]
-#[inline]
 fn read_commit(alloc: Global, from: &mut Reader<'_>) -> Result<Entry, FieldFault>
     ensures { Gives (λ entry. (entry, from.new)) result (commit_at from.old) }
 {
@@ -181,7 +169,6 @@ fn read_set_entry(alloc: Global, from: &mut Reader<'_>) -> Result<Entry, FieldFa
     Ok(Entry::Set { tid, epoch, list })
 }
 
-/// One entry.
 #[tactic(auto, unfolding(crate::specs::BodyReading::entry_at))]
 pub fn read_entry(alloc: Global, from: &mut Reader<'_>) -> Result<Entry, FieldFault>
     ensures { Gives (λ entry. (entry, from.new)) result (entry_at from.old) }
@@ -195,20 +182,7 @@ pub fn read_entry(alloc: Global, from: &mut Reader<'_>) -> Result<Entry, FieldFa
     }
 }
 
-/// The number of the script's producer that a body bumps, where it says nothing else. Logs hold most of such bodies, so
-/// that they are read in one step.
-#[inline]
-#[tactic(auto, unfolding(crate::specs::BodyReading::entries_at, crate::specs::BodyReading::count_at, crate::specs::BodyReading::entry_at, crate::specs::BodyReading::bump_at, cw_bytes::specs::Reading::many_at, cw_bytes::specs::Reading::tid_at, cw_bytes::specs::Reading::raw_id_at))]
-pub fn script_bump(body: &[u8]) -> Option<u32>
-    ensures { IfSome result (λ number. body_at body.now ≡ Some (Entry.Bump (Tid.Raw number) ∷ [])) }
-{
-    match body {
-        [0, 0, 0, 1, 1, 3, a, b, c, d] => Some(u32::from_be_bytes([*a, *b, *c, *d])),
-        _ => None,
-    }
-}
-
-/// How many entries a body has, which are some.
+// How many entries a body has, which are some.
 #[tactic(auto, unfolding(crate::specs::BodyReading::count_at))]
 pub fn read_count(from: &mut Reader<'_>) -> Result<u32, FieldFault>
     ensures { Gives (λ count. (count, from.new)) result (count_at from.old) }
@@ -230,7 +204,8 @@ fn read_all(alloc: Global, from: &mut Reader<'_>) -> Result<Vec<Entry>, FieldFau
 
 // The entries of a body.
 fn read_body(alloc: Global, body: &[u8]) -> Result<Vec<Entry>, BodyFault>
-    ensures { MatchResult result (λ entries. body_at body.now ≡ Some entries.items) (λ fault. fault ≢ BodyFault.Memory → body_at body.now ≡ None) }
+    ensures { MatchResult result (λ entries. body_at body.now ≡ Some entries.items)
+        (λ fault. fault ≢ BodyFault.Memory → body_at body.now ≡ None) }
 {
     let mut from = Reader::new(body);
     let entries = read_all(alloc, &mut from)?;
@@ -245,8 +220,10 @@ pub fn read_entries(alloc: Global, body: &[u8]) -> Result<Vec<Entry>, BodyFault>
     // What is read is spelled so, to the last byte.
     ensures found { IfOk result (λ entries. AreEntries entries.items × (body.now ≡ entries_bytes entries.items)) }
     // What is spelled so is read.
-    ensures only { (entries : List Entry) → AreEntries entries → body.now ≡ entries_bytes entries → IfOk result (λ read. read.items ≡ entries) }
-    ensures refused { (entries : List Entry) → AreEntries entries → body.now ≡ entries_bytes entries → result ≢ Err BodyFault.NotEntries }
+    ensures only { (entries : List Entry) → AreEntries entries → body.now ≡ entries_bytes entries →
+        IfOk result (λ read. read.items ≡ entries) }
+    ensures refused { (entries : List Entry) → AreEntries entries → body.now ≡ entries_bytes entries →
+        result ≢ Err BodyFault.NotEntries }
 {
     read_body(alloc, body)
 }

@@ -5,31 +5,32 @@ ghost use Rattle.cw_types.specs.declared.ids.PartKey.{PartKey};
 ghost use Rattle.cw_types.specs.declared.ids.Tid.{Tid};
 ghost use Rattle.cw_types.specs.declared.ids.Tag.{Tag};
 ghost use Rattle.cw_txn.specs.declared.entry.Entry.{Entry};
-ghost use Rattle.cw_types.specs.Same.{same_part};
+ghost use Rattle.std.specs.List.Sorted.{IsStrictlySortedBy};
+ghost use Rattle.cw_types.specs.Same.{same_part, part_order, connector_of};
 ghost use Rattle.cw_txn.specs.History.{history, base_of, end_of, GoesOn};
-ghost use Rattle.cw_txn.specs.Allowed.{AreAllowed, IsRaw};
+ghost use Rattle.cw_txn.specs.Allowed.{AreAllowed, IsRaw, IsSourceOf, IsSinkOf};
+ghost use Rattle.cw_types.specs.declared.ids.TaskId.{TaskId};
 ghost use Rattle.cw_txn.specs.Transactions.{AreNext};
 ghost use Rattle.cw_txn.specs.Legal.{epoch_of, is_committed, IsLegal, Chains, IsLegalBehind, ChainsBehind, AreNumbered};
 
 use crate::entry::{Entry, EntryRef, SetOffset};
 use crate::tables::Tables;
-use cw_tables::Hashing;
 use cw_types::{Decided, Epoch, Name, PartKey, Past, Span, Tag, Tid, Verdict};
 use std::alloc::{AllocError, Global};
 use std::marker::Model;
-
-/// A list has at most so many entries, counting those that are reserved, so that each epoch fits a u32.
-pub const MOST_ENTRIES: u64 = 1 << 31;
+use thiserror::Error;
 
 /// Why an entry wasn't written.
-#[derive(Clone, Copy, Debug, PartialEq, Eq, Drop)]
+#[derive(Clone, Copy, Debug, PartialEq, Eq, Drop, Error)]
 pub enum TxnFault {
     /// Its epoch isn't the producer's last, which is this one (KIP-98, fencing of zombies).
+    #[error("the producer's epoch is {current}")]
     Fenced {
         /// The producer's epoch.
         current: u64,
     },
     /// Want of memory.
+    #[error("out of memory")]
     Memory,
 }
 
@@ -46,7 +47,7 @@ impl From<AllocError> for TxnFault {
 
 /// The list of all that was bumped, committed and set, and what follows from it. At run time it keeps only
 /// what follows from it and the list's length, no entry. Look-ups take no memory.
-/// It has at most 2^31 entries, counting those that are reserved; one more is answered with want of memory.
+/// It has at most 2^64 - 1 entries, counting those that are reserved: one more is answered as want of memory.
 #[derive(Drop)]
 pub struct Coordinator {
     alloc: Global,
@@ -71,8 +72,8 @@ impl Model for Coordinator {
 impl Coordinator {
     ghost use Rattle.cw_txn.specs.Transactions.{Transactions, Appends, AreNext, ArePartsOf};
 
-    /// With no entry. The seed is as for [`Replay::new`](crate::Replay::new).
-    pub fn new(alloc: Global, seed: u128) -> Coordinator
+    /// With no entry.
+    pub fn new(alloc: Global) -> Coordinator
         ensures { result ≡ record { entries = []; reserved = [] } }
     {
         Coordinator {
@@ -80,7 +81,7 @@ impl Coordinator {
             entries: Past::new(),
             length: 0,
             reserved: Vec::new(alloc),
-            tables: Tables::new(alloc, &Hashing::seeded(seed)),
+            tables: Tables::new(alloc),
         }
     }
 
@@ -129,7 +130,8 @@ impl Coordinator {
 
     /// The parts of a connector that have an end, each once, in the order of parts.
     pub fn parts_of(&self, connector: &Name) -> Result<Vec<PartKey>, AllocError>
-        ensures { IfOk result (λ parts. ArePartsOf connector.now self.now.entries parts.items) }
+        ensures parts { IfOk result (λ parts. ArePartsOf connector.now self.now.entries parts.items) }
+        ensures ordered { IfOk result (λ parts. IsStrictlySortedBy part_order parts.items) }
     {
         let parts = self.tables.parts_of(self.alloc, connector)?;
         Ok(parts)
@@ -191,9 +193,8 @@ impl Coordinator {
         ensures never_fenced { (current : ℕ) → result ≢ Err (TxnFault.Fenced current) }
         ensures reserved { Contains self.old.reserved (Entry.Bump tid.now) → IsOk result }
     {
-        let epoch = self.next_epoch(tid);
         self.append(&EntryRef::Bump(tid))?;
-        Ok(Epoch(epoch))
+        Ok(Epoch(self.epoch_of(tid)))
     }
 
     /// Commits a transaction. Fenced comes exactly where its epoch isn't the producer's last (KIP-98),
@@ -207,7 +208,8 @@ impl Coordinator {
             result ≡ Err (TxnFault.Fenced (epoch_of tag.now.tid self.old.entries)) }
         ensures fenced_only { (current : ℕ) → result ≡ Err (TxnFault.Fenced current) →
             tag.now.epoch.0 ≢ epoch_of tag.now.tid self.old.entries }
-        ensures reserved { Contains self.old.reserved (Entry.Commit tag.now generation spans.now) → result ≢ Err TxnFault.Memory }
+        ensures reserved { Contains self.old.reserved (Entry.Commit tag.now generation spans.now) →
+            result ≢ Err TxnFault.Memory }
     {
         let current = self.epoch_of(&tag.tid);
         if tag.epoch.0 != current {
@@ -229,7 +231,8 @@ impl Coordinator {
             result ≡ Err (TxnFault.Fenced (epoch_of tid.now self.old.entries)) }
         ensures fenced_only { (current : ℕ) → result ≡ Err (TxnFault.Fenced current) →
             epoch.0 ≢ epoch_of tid.now self.old.entries }
-        ensures reserved { Contains self.old.reserved (Entry.Set tid.now epoch list.now) → result ≢ Err TxnFault.Memory }
+        ensures reserved { Contains self.old.reserved (Entry.Set tid.now epoch list.now) →
+            result ≢ Err TxnFault.Memory }
     {
         let current = self.epoch_of(tid);
         if epoch.0 != current {
@@ -237,13 +240,6 @@ impl Coordinator {
         }
         self.append(&EntryRef::Set { tid, epoch, list })?;
         Ok(())
-    }
-
-    // One epoch more than the last.
-    fn next_epoch(&self, tid: &Tid) -> u64
-        ensures { result ≡ epoch_of tid.now self.now.entries + 1 }
-    {
-        self.tables.epoch(tid) + 1
     }
 
     ghost use Rattle.cw_txn.specs.Tables.{entry_of};
@@ -295,15 +291,31 @@ impl Decided for Coordinator {
     }
 }
 
-/// The law of allowed lists: they are legal, a script's transactions have their places as numbers, and a list stays
-/// allowed behind a bump, and behind a commit of a script under its producer's epoch, with its place as number.
+/// The law of allowed lists: they are legal, and a script's transactions have their places as numbers. A list stays
+/// allowed behind a bump; behind a commit of spans that are next, under its producer's epoch, by a script with its
+/// place as number, or by a task, of sources of its connector, where it is new; and behind a set under its producer's
+/// epoch, by the leader, of one connector's parts, or by a task, of sinks of its connector.
 pub fn lists_stay_allowed()
     ensures legal { (entries : List Entry) → AreAllowed entries → IsLegal entries }
     ensures numbered { (entries : List Entry) → AreAllowed entries → AreNumbered entries }
-    ensures bump { (entries : List Entry) (tid : Tid) → AreAllowed entries → AreAllowed (entries ++ Entry.Bump tid ∷ []) }
-    ensures commit { (entries : List Entry) (tag : Tag) (generation : ℕ) (spans : List Span) (n : ℕ) → AreAllowed entries →
-        AreNext entries spans → All (λ span. IsRaw span.part) spans → tag.tid ≡ Tid.Raw n → tag.number ≡ length entries →
-        tag.epoch.0 ≡ epoch_of tag.tid entries → AreAllowed (entries ++ Entry.Commit tag generation spans ∷ []) }
+    ensures bump { (entries : List Entry) (tid : Tid) → AreAllowed entries →
+        AreAllowed (entries ++ Entry.Bump tid ∷ []) }
+    ensures commit { (entries : List Entry) (tag : Tag) (generation : ℕ) (spans : List Span) (n : ℕ) →
+        AreAllowed entries → AreNext entries spans → All (λ span. IsRaw span.part) spans → tag.tid ≡ Tid.Raw n →
+        tag.number ≡ length entries → tag.epoch.0 ≡ epoch_of tag.tid entries →
+        AreAllowed (entries ++ Entry.Commit tag generation spans ∷ []) }
+    ensures task_commit { (entries : List Entry) (tag : Tag) (generation : ℕ) (spans : List Span) (id : TaskId) →
+        AreAllowed entries → AreNext entries spans → All (λ span. IsSourceOf id.connector span.part) spans →
+        tag.tid ≡ Tid.Task id → is_committed tag entries ≡ false → tag.epoch.0 ≡ epoch_of tag.tid entries →
+        AreAllowed (entries ++ Entry.Commit tag generation spans ∷ []) }
+    ensures lead_set { (entries : List Entry) (epoch : Epoch) (list : List SetOffset) (connector : List ℕ) →
+        AreAllowed entries → IsDistinct same_part (map (λ set. set.part) list) →
+        All (λ set. connector_of set.part ≡ Some connector) list → epoch.0 ≡ epoch_of Tid.Lead entries →
+        AreAllowed (entries ++ Entry.Set Tid.Lead epoch list ∷ []) }
+    ensures task_set { (entries : List Entry) (id : TaskId) (epoch : Epoch) (list : List SetOffset) →
+        AreAllowed entries → IsDistinct same_part (map (λ set. set.part) list) →
+        All (λ set. IsSinkOf id.connector set.part) list → epoch.0 ≡ epoch_of (Tid.Task id) entries →
+        AreAllowed (entries ++ Entry.Set (Tid.Task id) epoch list ∷ []) }
 {}
 
 /// The law of a script's transactions: where each has its place in the list as its number, one with the
@@ -313,7 +325,8 @@ pub fn raw_transactions_are_new()
         tag.number ≡ length entries → is_committed tag entries ≡ false }
     ensures commit { (entries : List Entry) (tag : Tag) (generation : ℕ) (spans : List Span) → AreNumbered entries →
         tag.number ≡ length entries → AreNumbered (entries ++ Entry.Commit tag generation spans ∷ []) }
-    ensures bump { (entries : List Entry) (tid : Tid) → AreNumbered entries → AreNumbered (entries ++ Entry.Bump tid ∷ []) }
+    ensures bump { (entries : List Entry) (tid : Tid) → AreNumbered entries →
+        AreNumbered (entries ++ Entry.Bump tid ∷ []) }
     ensures set { (entries : List Entry) (tid : Tid) (epoch : Epoch) (list : List SetOffset) → AreNumbered entries →
         AreNumbered (entries ++ Entry.Set tid epoch list ∷ []) }
 {}
@@ -323,7 +336,7 @@ ghost use Rattle.cw_types.specs.declared.ids.Epoch.{Epoch};
 ghost use Rattle.cw_txn.specs.declared.entry.SetOffset.{SetOffset};
 ghost use Rattle.cw_txn.specs.Tables.{entry_of, IsFirstAt, Keeps, HasRows, KeepsRows, SameRows, IsCoordinator};
 
-/// Whether no part is in two of the spans.
+// Whether no part is in two of the spans.
 pub fn have_distinct_parts(spans: &[Span]) -> bool
     ensures { IsTrue result ↔ IsDistinct same_part (map (λ span. span.part) spans.now) }
 {
@@ -353,7 +366,8 @@ fn is_part(a: &PartKey, b: &PartKey) -> bool
 
 // The first place of an entry in a list.
 fn place_of(entries: &[Entry], entry: &EntryRef<'_>) -> Option<usize>
-    ensures { MatchOption result (¬ Contains entries.now (entry_of entry.now)) (λ at. IsFirstAt (entry_of entry.now) entries.now at) }
+    ensures { MatchOption result (¬ Contains entries.now (entry_of entry.now))
+        (λ at. IsFirstAt (entry_of entry.now) entries.now at) }
 {
     for at in 0..entries.len() {
         if entry.is(&entries[at]) {
@@ -365,12 +379,12 @@ fn place_of(entries: &[Entry], entry: &EntryRef<'_>) -> Option<usize>
 
 // Rows for an entry, which change no meaning, where one more than those counted may be held.
 fn make_room(tables: &mut Tables, counted: u64, entry: &EntryRef<'_>) -> Result<(), AllocError>
-    ensures few { OnOk result (counted < 2 ^ 31) }
+    ensures few { OnOk result (counted + 1 < 2 ^ 64) }
     ensures same { SameRows tables.old tables.new }
     ensures kept { KeepsRows tables.old tables.new }
     ensures there { OnOk result (HasRows tables.new (entry_of entry.now)) }
 {
-    if counted >= MOST_ENTRIES {
+    if counted == u64::MAX {
         return Err(AllocError);
     }
     tables.make_rows(entry)
@@ -379,7 +393,7 @@ fn make_room(tables: &mut Tables, counted: u64, entry: &EntryRef<'_>) -> Result<
 // Writes an entry for which there is room.
 fn settle(tables: &mut Tables, entries: &mut Past<Entry>, count: &mut u64, entry: &Entry)
     requires counted { count.old ≡ length entries.old.items }
-    requires few { count.old < 2 ^ 31 }
+    requires few { count.old + 1 < 2 ^ 64 }
     requires rows { HasRows tables.old entry.now }
     requires kept { Keeps tables.old entries.old.items }
     ensures written { entries.new.items ≡ entries.old.items ++ entry.now ∷ [] }
@@ -392,7 +406,7 @@ fn settle(tables: &mut Tables, entries: &mut Past<Entry>, count: &mut u64, entry
     *count += 1;
 }
 
-/// The coordinator of entries whose tables these are.
+// The coordinator of entries whose tables these are.
 pub fn coordinator_of(
     alloc: Global,
     tables: Tables,

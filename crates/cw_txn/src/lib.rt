@@ -8,23 +8,15 @@
 
 mod allowed;
 mod body;
-mod commits;
 mod coordinator;
 mod entry;
 mod epochs;
 mod history;
-mod late;
-mod named_parts;
 mod parts;
 mod replay;
-mod risen;
-mod script_parts;
-mod sought;
 mod tables;
 #[cfg(test)]
 mod tests;
-mod waiting;
-mod walk;
 
 pub use body::{BodyFault, read_entries, write_entries};
 pub use coordinator::{Coordinator, TxnFault, lists_stay_allowed, raw_transactions_are_new};

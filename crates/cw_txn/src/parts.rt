@@ -1,124 +1,171 @@
-//! The table of what is committed of each part.
-ghost use Rattle.std.specs.Prelude.{◌≡◌, ◌↔◌, ◌&&◌, IfOk, OnOk, IsSome, IsTrue, Some, None, is_some, unwrap_or, if◌then◌else◌};
-ghost use Rattle.std.specs.HashMap.{get};
-ghost use Rattle.cw_types.specs.declared.ids.PartKey.{PartKey};
-ghost use Rattle.cw_types.specs.Same.{same_part, part_eq};
-ghost use Rattle.cw_txn.specs.History.{after_span, GoesOn};
+//! Where each part begins and ends.
+ghost use Rattle.std.specs.Prelude.{◌≡◌, ◌↔◌, ◌∷◌, [], All, IfOk, OnOk, IsTrue, is_some};
+ghost use Rattle.std.specs.Str.{bytes_eq};
+ghost use Rattle.std.specs.BTreeMap.{get};
+ghost use Rattle.cw_types.specs.Same.{part_order};
+ghost use Rattle.cw_txn.specs.History.{GoesOn};
+ghost use Rattle.cw_txn.specs.Walk.{IsSpanTest};
+ghost use Rattle.cw_txn.specs.Tables.{history_at, is_of, HasPart, KeepsParts, SameParts, MovesRow, MovesEnds, SetsParts};
 
+use crate::entry::SetOffset;
 use crate::history::History;
-use crate::named_parts::{make_named, move_name, put_name};
-use crate::script_parts::ScriptParts;
-use cw_tables::hashed::{set_row, value_at};
-use cw_tables::{Forecast, Hashing};
-use cw_types::{PartKey, Span};
-use std::alloc::{AllocError, Global};
-use std::collections::HashMap;
+use cw_tables::{has_row, make_row, set_row};
+use cw_types::{Name, PartKey, Span};
+use std::alloc::AllocError;
+use std::collections::BTreeMap;
 
-/// The history of each part. Those of scripts are found by their numbers alone, which keeps their rows small.
-#[derive(Drop)]
-pub struct Parts {
-    pub scripts: ScriptParts,
-    pub named: HashMap<PartKey, History>,
+/// Whether a part is a connector's.
+pub fn is_of(part: &PartKey, connector: &Name) -> bool
+    ensures { result ≡ is_of connector.now part.now }
+{
+    match part {
+        PartKey::Raw(_) => false,
+        PartKey::File {
+            connector: owner,
+            ..
+        } => same_names(owner, connector),
+        PartKey::Seq {
+            connector: owner,
+            ..
+        } => same_names(owner, connector),
+        PartKey::Sink {
+            connector: owner,
+            ..
+        } => same_names(owner, connector),
+    }
 }
 
-impl Parts {
-    ghost use Rattle.cw_txn.specs.PartRows.{part_row, history_at, CanSet, HasPart, KeepsParts};
+/// Whether two names are one.
+pub fn same_names(a: &Name, b: &Name) -> bool
+    ensures { result ≡ bytes_eq a.now b.now }
+{
+    a == b
+}
 
-    /// With no row, for numbers that are hashed so.
-    pub fn new(alloc: Global, hashing: &Hashing) -> Parts
-        ensures { (q : PartKey) → part_row result q ≡ None }
-    {
-        Parts {
-            scripts: ScriptParts::new(alloc, hashing),
-            named: HashMap::new(alloc),
+/// Rows for the parts of spans, which read as before.
+pub fn make_span_parts(
+    parts: &mut BTreeMap<PartKey, History>,
+    spans: &[Span],
+) -> Result<(), AllocError>
+    ensures same { SameParts parts.old parts.new }
+    ensures kept { KeepsParts parts.old parts.new }
+    ensures there { OnOk result (All (λ span. HasPart parts.new span.part) spans.now) }
+{
+    for span in spans {
+        make_part(parts, &span.part)?;
+    }
+    Ok(())
+}
+
+/// Rows for the parts of offsets, which read as before.
+pub fn make_set_parts(
+    parts: &mut BTreeMap<PartKey, History>,
+    list: &[SetOffset],
+) -> Result<(), AllocError>
+    ensures same { SameParts parts.old parts.new }
+    ensures kept { KeepsParts parts.old parts.new }
+    ensures there { OnOk result (All (λ set. HasPart parts.new set.part) list.now) }
+{
+    for set in list {
+        make_part(parts, &set.part)?;
+    }
+    Ok(())
+}
+
+fn make_part(parts: &mut BTreeMap<PartKey, History>, part: &PartKey) -> Result<(), AllocError>
+    ensures same { SameParts parts.old parts.new }
+    ensures kept { KeepsParts parts.old parts.new }
+    ensures there { OnOk result (HasPart parts.new part.now) }
+{
+    if has_row(parts, part) {
+        return Ok(());
+    }
+    make_row(parts, part.copy()?, History::UNSET)
+}
+
+/// The end of each span's part, in its row or in a new one. It says whether every part chains.
+pub fn put_ends(parts: &mut BTreeMap<PartKey, History>, spans: &[Span]) -> Result<bool, AllocError>
+    ensures moved { OnOk result (MovesEnds parts.old parts.new spans.now) }
+    ensures chains { IfOk result (IsSpanTest parts.old spans.now) }
+{
+    let mut chains = true;
+    for span in spans {
+        let goes_on = put_end(parts, span)?;
+        chains = chains && goes_on;
+    }
+    Ok(chains)
+}
+
+// The end of one span's part. It says whether the span goes on from where it was.
+fn put_end(parts: &mut BTreeMap<PartKey, History>, span: &Span) -> Result<bool, AllocError>
+    ensures moved { OnOk result (MovesEnds parts.old parts.new (span.now ∷ [])) }
+    ensures goes_on { IfOk result (λ on. IsTrue on ↔ GoesOn (history_at parts.old span.now.part) span.now) }
+{
+    match move_row(parts, span) {
+        Some(before) => Ok(before.goes_on(span)),
+        None => {
+            parts.insert(span.part.copy()?, History::UNSET.ended(span.to))?;
+            Ok(History::UNSET.goes_on(span))
         }
     }
+}
 
-    /// The history of a part, `UNSET` where it has no row.
-    pub fn history(&self, part: &PartKey) -> History
-        ensures { result ≡ history_at self.now part.now }
-    {
-        match part {
-            PartKey::Raw(number) => self.scripts.get(*number).unwrap_or(History::UNSET),
-            PartKey::File { .. } => value_at(&self.named, part, History::UNSET),
-            PartKey::Seq { .. } => value_at(&self.named, part, History::UNSET),
-            PartKey::Sink { .. } => value_at(&self.named, part, History::UNSET),
+/// The end of each span's part, in its row.
+pub fn move_ends(parts: &mut BTreeMap<PartKey, History>, spans: &[Span])
+    requires { All (λ span. HasPart parts.old span.part) spans.now }
+    ensures moved { MovesEnds parts.old parts.new spans.now }
+    ensures kept { KeepsParts parts.old parts.new }
+{
+    for span in spans {
+        move_end(parts, span);
+    }
+}
+
+fn move_end(parts: &mut BTreeMap<PartKey, History>, span: &Span)
+    requires { HasPart parts.old span.now.part }
+    ensures moved { MovesEnds parts.old parts.new (span.now ∷ []) }
+    ensures kept { KeepsParts parts.old parts.new }
+{
+    let _ = move_row(parts, span);
+}
+
+// Moves the end of a part that has a row, and gives what the row was.
+fn move_row(parts: &mut BTreeMap<PartKey, History>, span: &Span) -> Option<History>
+    ensures before { result ≡ get part_order parts.old span.now.part }
+    ensures moved { MovesRow (is_some result) parts.old parts.new span.now }
+{
+    match parts.get_mut(&span.part) {
+        Some(row) => {
+            let before = *row;
+            *row = before.ended(span.to);
+            Some(before)
         }
+        None => None,
     }
+}
 
-    /// Makes room for the scripts' parts of a forecast, or for some of them. The table is as before.
-    pub fn make_room(&mut self, forecast: &Forecast) -> Result<(), AllocError>
-        ensures { (q : PartKey) → part_row self.new q ≡ part_row self.old q }
-    {
-        self.scripts.make_room(forecast)
+/// The offsets of parts, in their rows.
+pub fn set_histories(parts: &mut BTreeMap<PartKey, History>, list: &[SetOffset])
+    requires { All (λ set. HasPart parts.old set.part) list.now }
+    ensures moved { SetsParts parts.old parts.new list.now }
+    ensures kept { KeepsParts parts.old parts.new }
+{
+    for set in list {
+        set_history(parts, set);
     }
+}
 
-    /// A row for a part. The table reads as before.
-    pub fn make(&mut self, part: &PartKey) -> Result<(), AllocError>
-        ensures same { (q : PartKey) → history_at self.new q ≡ history_at self.old q }
-        ensures kept { KeepsParts self.old self.new }
-        ensures there { OnOk result (HasPart self.new part.now) }
-    {
-        match part {
-            PartKey::Raw(number) => self.scripts.make(*number),
-            PartKey::File { .. } => make_named(&mut self.named, part),
-            PartKey::Seq { .. } => make_named(&mut self.named, part),
-            PartKey::Sink { .. } => make_named(&mut self.named, part),
-        }
-    }
-
-    /// A row for a part whose offsets can be set then without memory. The table reads as before.
-    pub fn make_settable(&mut self, part: &PartKey) -> Result<(), AllocError>
-        ensures same { (q : PartKey) → history_at self.new q ≡ history_at self.old q }
-        ensures kept { KeepsParts self.old self.new }
-        ensures there { OnOk result (CanSet self.new part.now) }
-    {
-        match part {
-            PartKey::Raw(number) => self.scripts.make_settable(*number),
-            PartKey::File { .. } => make_named(&mut self.named, part),
-            PartKey::Seq { .. } => make_named(&mut self.named, part),
-            PartKey::Sink { .. } => make_named(&mut self.named, part),
-        }
-    }
-
-    /// Sets the history of a part for which that takes no memory.
-    pub fn set(&mut self, part: &PartKey, history: History)
-        requires { CanSet self.old part.now }
-        ensures kept { KeepsParts self.old self.new }
-        ensures set { (q : PartKey) → part_row self.new q ≡ (if same_part part.now q then Some history else part_row self.old q) }
-    {
-        match part {
-            PartKey::Raw(number) => self.scripts.set(*number, history),
-            PartKey::File { .. } => set_row(&mut self.named, part, history),
-            PartKey::Seq { .. } => set_row(&mut self.named, part, history),
-            PartKey::Sink { .. } => set_row(&mut self.named, part, history),
-        }
-    }
-
-    /// Moves the end of a part that has a row to its span's, and gives what the row was.
-    pub fn move_end(&mut self, span: &Span) -> Option<History>
-        ensures before { result ≡ part_row self.old span.now.part }
-        ensures moved { (q : PartKey) → part_row self.new q ≡ (if is_some result && same_part span.now.part q then Some (record { base = (history_at self.old span.now.part).base; end = Some span.now.to }) else part_row self.old q) }
-        ensures kept { KeepsParts self.old self.new }
-    {
-        match &span.part {
-            PartKey::Raw(number) => self.scripts.move_end(*number, span.to),
-            PartKey::File { .. } => move_name(&mut self.named, &span.part, span.to),
-            PartKey::Seq { .. } => move_name(&mut self.named, &span.part, span.to),
-            PartKey::Sink { .. } => move_name(&mut self.named, &span.part, span.to),
-        }
-    }
-
-    /// The end of a part moves to its span's, in its row or in a new one; it says whether the span goes on from where it was.
-    pub fn put_end(&mut self, span: &Span) -> Result<bool, AllocError>
-        ensures moved { OnOk result ((part : PartKey) → history_at self.new part ≡ after_span part (history_at self.old part) span.now) }
-        ensures goes_on { IfOk result (λ goes_on. IsTrue goes_on ↔ GoesOn (history_at self.old span.now.part) span.now) }
-    {
-        match &span.part {
-            PartKey::Raw(number) => Ok(self.scripts.put_end(*number, span.to)?.goes_on(span)),
-            PartKey::File { .. } => put_name(&mut self.named, span),
-            PartKey::Seq { .. } => put_name(&mut self.named, span),
-            PartKey::Sink { .. } => put_name(&mut self.named, span),
-        }
-    }
+fn set_history(parts: &mut BTreeMap<PartKey, History>, set: &SetOffset)
+    requires { HasPart parts.old set.now.part }
+    ensures moved { SetsParts parts.old parts.new (set.now ∷ []) }
+    ensures kept { KeepsParts parts.old parts.new }
+{
+    set_row(
+        parts,
+        &set.part,
+        History {
+            base: set.to.unwrap_or(0),
+            end: set.to,
+        },
+    );
 }

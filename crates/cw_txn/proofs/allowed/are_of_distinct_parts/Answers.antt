@@ -1,8 +1,9 @@
 use Rattle.std.proofs.Common.{◌≡◌, ◌∙◌, ℕ, Bool, true, false, List, take, get_or, sym, ap, is_some}
 use Rattle.std.specs.List.{list_any}
 use Rattle.cw_txn.specs.declared.entry.SetOffset.{SetOffset}
-use Rattle.cw_types.specs.Same.{same_part, part_eq}
+use Rattle.cw_types.specs.Same.{same_part, part_order}
 use Rattle.std.specs.Map.{lookup}
+use Rattle.std.specs.BTreeMap.{is_at}
 use Rattle.cw_txn.proofs.DistinctParts.{none_distinct, stay_distinct, not_distinct}
 use Rattle.cw_txn.proofs.Noted.{part_set, noted_more, is_new, is_old}
 use Rattle.cw_txn.proofs.allowed.are_of_distinct_parts.Goals as goal
@@ -13,7 +14,7 @@ at_item : (list : List SetOffset) (at : ℕ) (set : SetOffset) → set ≡ get_o
 at_item list at set is b e = ap (λ (s : SetOffset). list_any (λ (x : SetOffset). same_part s.part x.part) (take at list)) (sym is) ∙ e
 
 pub loop-set-init : goal.loop-set-init
-loop-set-init c = record { distinct = none_distinct; noted = λ part. ap (λ es. is_some (lookup (part_eq part) es)) c.new-noted.ensures.empty }
+loop-set-init c = record { distinct = none_distinct; noted = λ part. ap (λ es. is_some (lookup (is_at (part_order part)) es)) c.new-noted.ensures.empty }
 
 pub returns-then-not-first : goal.returns-then-not-first
 returns-then-not-first c = (

@@ -1,6 +1,7 @@
 use Rattle.std.proofs.Common.{◌∙◌, ◌++◌, ◌∷◌, [], List, ap, subst, arith, inl}
 use Rattle.cw_txn.specs.declared.entry.Entry.{Entry}
 use Rattle.cw_txn.specs.Tables.{IsFirstAt, entry_of}
+use Rattle.cw_txn.proofs.Kept.{Keeps-same}
 use Rattle.cw_txn.proofs.Settled.{with_rows, settled, without, fewer, taken_is}
 use Rattle.cw_txn.proofs.coordinator.Coordinator.append.Goals as goal
 
@@ -34,3 +35,6 @@ invariant_of-self-2 c =
     c.settle-2.new.tables c.in_ok-written.written (entry_of c.args.entry.now) c.settle-2.new.entries.items c.args.self.now.entries c.self.inside.reserved.items c.settle-2.new.count
     c.settle-2.ensures.written c.settle-2.ensures.kept c.settle-2.ensures.rows (ap (λ t. t.entries) c.self.view_is) c.in_ok-written.ensures c.requires.legal c.requires.chains
     (λ e there. there) c.settle-2.ensures.counted (omega (arith, c.self.invariant.counted, c.in_ok-make_room.ensures.few))
+
+pub settle-requires-2-clause-kept : goal.settle-requires-2-clause-kept
+settle-requires-2-clause-kept c = Keeps-same c.self.inside.tables c.make_room.new.tables c.self.inside.entries.items c.make_room.ensures.same c.self.invariant.kept

@@ -5,8 +5,8 @@ use Rattle.cw_txn.proofs.tables.Tables.make_rows.Goals as goal
 
 pub returns-in_ok-make_span_parts-in-Commit-clause-there : goal.returns-in_ok-make_span_parts-in-Commit-clause-there
 returns-in_ok-make_span_parts-in-Commit-clause-there c =
-    subst (λ (e : EntryRef). HasRows (record { epochs = c.args.self.now.epochs; committed = c.make_row.new.self; parts = c.make_span_parts.new.parts }) (entry_of e)) (sym c.in-Commit.is)
-    (c.in_ok-make_row-in-Commit.ensures.there, c.in_ok-make_span_parts-in-Commit.ensures.there)
+    subst (λ (e : EntryRef). HasRows (record { epochs = c.args.self.now.epochs; committed = c.make_tag.new.committed; parts = c.make_span_parts.new.parts }) (entry_of e)) (sym c.in-Commit.is)
+    (c.in_ok-make_tag-in-Commit.ensures.there, c.in_ok-make_span_parts-in-Commit.ensures.there)
 
 pub returns-in_ok-make_set_parts-in-Set-clause-there : goal.returns-in_ok-make_set_parts-in-Set-clause-there
 returns-in_ok-make_set_parts-in-Set-clause-there c =

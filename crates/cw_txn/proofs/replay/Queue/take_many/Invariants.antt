@@ -1,5 +1,0 @@
-use Rattle.cw_txn.proofs.QueueLemmas.{TakesMany}
-use Rattle.cw_txn.proofs.replay.Queue.take_many.Given as goal
-
-abbrev pub invariant-loop : goal.invariant-loop
-invariant-loop l = TakesMany l.group.items l.gate l.count l.counter l.initial.from l.from l.fn.self l.self
