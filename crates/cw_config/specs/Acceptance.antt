@@ -22,7 +22,8 @@ next_of records = if nat_lt (end_of records) (2 ^ 64) then Some (end_of records)
 -- each task below a count has a record behind its connector's last commit
 abbrev pub has_tasks : List ℕ → ℕ → List ConfigRecord → Bool
 has_tasks name count records =
-    list_all (λ index. is_some (deferred_record (record { connector = name; index = index }) records)) (range_with_len 0 count)
+    list_all (λ index. is_some (deferred_record
+        (record { connector = name; index = index }) records)) (range_with_len 0 count)
 
 -- a commit has its tasks; other records need nothing
 abbrev pub is_backed : List ConfigRecord → ConfigKey → Option ConfigValue → Bool

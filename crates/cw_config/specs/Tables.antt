@@ -1,5 +1,6 @@
--- What the tables keep of the records, so that no look-up walks them: of each key what its last record says, and of a task
--- whose last record waits for a commit, what the last one says that was committed. Internal: no public contract cites this.
+-- What the tables keep of the records, so that no look-up walks them: of each key what its last record says, and
+-- of a task whose last record waits for a commit, what the last one says that was committed. Internal: no public
+-- contract cites this.
 use Rattle.std.specs.Prelude.{◌≡◌, ◌≤◌, ℕ, ◌+◌, Bool, true, List, [], ◌∷◌, Option, Some, None, IsSome, is_some, option_map, option_and_then, nat_lt, if◌then◌else◌}
 use Rattle.std.specs.Bool.{⊤}
 use Rattle.std.specs.List.{list_all, range_with_len}
@@ -123,7 +124,8 @@ puts_task generation id r was = if has_key (Task id) r then Some (row_behind gen
 -- the tables behind one more record
 pub record Puts (r : ConfigRecord) (old new : Tables) : Type 0 where
   pub last : new.last ≡ Some r.offset
-  pub connectors : (name : List ℕ) → named_at new.connectors name ≡ puts_row (Connector name) r (named_at old.connectors name)
+  pub connectors : (name : List ℕ) → named_at new.connectors name
+      ≡ puts_row (Connector name) r (named_at old.connectors name)
   pub commits : (name : List ℕ) → named_at new.commits name ≡ puts_row (Commit name) r (named_at old.commits name)
   pub targets : (name : List ℕ) → named_at new.targets name ≡ puts_row (Target name) r (named_at old.targets name)
   pub fences : (name : List ℕ) → named_at new.fences name ≡ puts_row (Fencing name) r (named_at old.fences name)

@@ -50,7 +50,8 @@ pub fn read_record(
     key: &[u8],
     value: Option<&[u8]>,
 ) -> Result<ConfigRecord, ApplyFault>
-    ensures read { IfOk result (λ made. record_of offset stamp key.now (option_map (λ text. text.now) value.entry) ≡ Some made) }
+    ensures read { IfOk result (λ made. record_of offset stamp key.now (option_map (λ text. text.now) value.entry)
+        ≡ Some made) }
     ensures refused { (at : ℕ) → result ≡ Err (ApplyFault.BadRecord at) →
         (at ≡ offset) × (record_of offset stamp key.now (option_map (λ text. text.now) value.entry) ≡ None) }
 {

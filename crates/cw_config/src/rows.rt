@@ -33,7 +33,8 @@ pub fn make_row<K: Ord + Drop, V: Drop>(
 /// Fills a row that is there.
 pub fn fill_row<K: Ord, V: Drop>(table: &mut BTreeMap<K, Option<V>>, key: &K, value: V)
     requires { IsSome (get K.cmp table.old key.now) }
-    ensures { (q : K) → get K.cmp table.new q ≡ (if is_at (K.cmp key.now) q then Some (Some value) else get K.cmp table.old q) }
+    ensures { (q : K) → get K.cmp table.new q
+        ≡ (if is_at (K.cmp key.now) q then Some (Some value) else get K.cmp table.old q) }
 {
     if let Some(row) = table.get_mut(key) {
         *row = Some(value);

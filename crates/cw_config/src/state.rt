@@ -62,7 +62,8 @@ impl ConfigState {
         key: &[u8],
         value: Option<&[u8]>,
     ) -> Result<(), ApplyFault>
-        ensures ok { OnOk result (applied self.old offset stamp key.now (option_map (λ text. text.now) value.entry) ≡ Some self.new) }
+        ensures ok { OnOk result (applied self.old offset stamp key.now (option_map (λ text. text.now) value.entry)
+            ≡ Some self.new) }
         ensures refused { (at : ℕ) → result ≡ Err (ApplyFault.BadRecord at) →
             (at ≡ offset) × (applied self.old offset stamp key.now (option_map (λ text. text.now) value.entry) ≡ None) }
         ensures err { OnErr result (self.new ≡ self.old) }

@@ -53,7 +53,8 @@ ghost use Rattle.cw_config.specs.Tables.{value_in, offset_in, is_later, if_later
 
 /// The properties that a row says.
 pub fn properties_at(row: Option<&Stored>) -> Option<&Props>
-    ensures { option_map (λ props. props.now) result ≡ option_and_then properties_in (value_in (option_copied row.entry)) }
+    ensures { option_map (λ props. props.now) result
+        ≡ option_and_then properties_in (value_in (option_copied row.entry)) }
 {
     match &row?.value {
         Some(ConfigValue::Connector(props)) | Some(ConfigValue::Task(props)) => Some(props),
@@ -156,7 +157,9 @@ fn fill_task(
     last: Stored,
 )
     requires { IsSome (get task_order tasks.old id.now) }
-    ensures { (q : TaskId) → get task_order tasks.new q ≡ (if is_at (task_order id.now) q then Some (Some (row_behind generation (task_at tasks.old id.now) last)) else get task_order tasks.old q) }
+    ensures { (q : TaskId) → get task_order tasks.new q
+        ≡ (if is_at (task_order id.now) q then Some (Some (row_behind generation (task_at tasks.old id.now) last))
+        else get task_order tasks.old q) }
 {
     if let Some(row) = tasks.get_mut(id) {
         let was = row.take();
@@ -223,7 +226,8 @@ impl Tables {
 
     /// What was committed of a task.
     pub fn committed(&self, id: &TaskId) -> Option<&Stored>
-        ensures { option_copied result ≡ committed_in (generation_at self.now id.now.connector) (task_at self.now.tasks id.now) }
+        ensures { option_copied result
+            ≡ committed_in (generation_at self.now id.now.connector) (task_at self.now.tasks id.now) }
     {
         let generation = self.generation(&id.connector);
         committed_in(row_at(&self.tasks, id), generation)
@@ -231,7 +235,8 @@ impl Tables {
 
     /// What waits of a task for a commit.
     pub fn deferred(&self, id: &TaskId) -> Option<&Stored>
-        ensures { option_copied result ≡ deferred_in (generation_at self.now id.now.connector) (task_at self.now.tasks id.now) }
+        ensures { option_copied result
+            ≡ deferred_in (generation_at self.now id.now.connector) (task_at self.now.tasks id.now) }
     {
         let generation = self.generation(&id.connector);
         deferred_in(row_at(&self.tasks, id), generation)
