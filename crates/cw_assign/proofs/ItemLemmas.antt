@@ -4,7 +4,8 @@ use Rattle.std.specs.declared.cmp.Ordering.TheVariants.{Less, Equal, Greater}
 use Rattle.std.specs.Ordering.{is_eq, nat_cmp, ordering_then}
 use Rattle.std.specs.Bool.{Decides}
 use Rattle.std.specs.Str.{bytes_eq}
-use Rattle.std.specs.List.{list_any}
+use Rattle.std.specs.List.{list_any, IsDistinct}
+use Rattle.std.proofs.lemmas.Map.Keys.{IsDistinct-from_sorted}
 use Rattle.std.specs.BTreeMap.{is_at}
 use Rattle.std.specs.BTreeSet.{insert_key}
 use Rattle.std.specs.List.Sorted.{IsStrictlySortedBy}
@@ -88,3 +89,7 @@ keys-inserted old new item is = is ∙ ap (λ (cmp : Item → Item → Ordering)
 
 pub rising-items : (keys : List Item) → IsStrictlySortedBy item_ord.cmp-value.it keys → IsStrictlySortedBy item_cmp keys
 rising-items keys = subst (λ (cmp : Item → Item → Ordering). IsStrictlySortedBy cmp keys) derived_is_item_cmp
+
+-- items that rise are distinct
+pub once_rising : (items : List Item) → IsStrictlySortedBy item_cmp items → IsDistinct same_item items
+once_rising items rising = IsDistinct-from_sorted item_cmp items rising

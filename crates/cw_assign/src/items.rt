@@ -1,7 +1,7 @@
 //! Classes of items, and sets of items.
 ghost use Rattle.std.specs.Prelude.{◌≡◌, ◌||◌, [], IfOk, OnOk};
 ghost use Rattle.cw_types.specs.declared.ids.Item.{Item};
-ghost use Rattle.std.specs.List.{fold};
+ghost use Rattle.std.specs.List.{fold, IsDistinct};
 ghost use Rattle.std.specs.List.Sorted.{IsStrictlySortedBy};
 ghost use Rattle.std.specs.BTreeSet.{insert_key};
 ghost use Rattle.cw_types.specs.Order.{item_cmp};
@@ -97,8 +97,18 @@ impl ItemSet {
         Ok(())
     }
 
-    /// The items in their order.
+    /// The items in their order, each once.
+    #[tactic(auto, using(crate::proofs::ItemLemmas::once_rising))]
     pub fn into_items(self, alloc: Global) -> Result<Vec<Item>, AllocError>
+        ensures items { IfOk result (λ items. items.items ≡ self) }
+        ensures rising { IfOk result (λ items. IsStrictlySortedBy item_cmp items.items) }
+        ensures once { IfOk result (λ items. IsDistinct same_item items.items) }
+    {
+        let items = self.collected(alloc)?;
+        Ok(items)
+    }
+
+    fn collected(self, alloc: Global) -> Result<Vec<Item>, AllocError>
         ensures items { IfOk result (λ items. items.items ≡ self) }
         ensures rising { IfOk result (λ items. IsStrictlySortedBy item_cmp items.items) }
     {

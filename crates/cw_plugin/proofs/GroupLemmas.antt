@@ -1,7 +1,7 @@
 -- Elements of a list: without repeats, in groups, joined by commas and cut again.
 use Rattle.std.proofs.Common.{◌≡◌, ℕ, zero, suc, ◌+◌, ◌-◌, ◌*◌, ◌<◌, ◌≤◌, min, List, [], ◌∷◌, ◌++◌, length, take, drop, map, filter, Bool, true, false, not, cond, ◌==◌, ◌||◌, bytes_eq, decimal, refl, sym, ap, ◌∙◌, subst, inl, inr, arith, length-drop, length-take, take-append-drop}
 use Rattle.std.specs.Char.{is_ascii_digit}
-use Rattle.std.specs.List.{AllByRecursion, list_any, list_all, join_with_byte, range_with_len, onto_first}
+use Rattle.std.specs.List.{AllByRecursion, list_any, list_all, flat_map, join_with_byte, range_with_len, onto_first}
 use Rattle.std.proofs.lemmas.Bool.{both_ways, or_parts, or_cases, or_from, and_parts, false_from_ne_true}
 use Rattle.std.proofs.lemmas.Bool.Decides.{nat_tests}
 use Rattle.std.proofs.lemmas.Fmt.{decimal_injective, digits_decimal}
@@ -120,6 +120,17 @@ groups_law P (suc count) least more es least_some room unrepeated pass =
         rest.1,
       ),
     )
+
+-- groups that leave nothing over are the elements again
+pub groups-joined : (count least more : ℕ) (es : Texts) → count * least + more ≡ length es → more ≤ count
+    → flat_map (λ g. g) (groups count least more es) ≡ es
+unfolding groups
+groups-joined zero least more [] all few = refl
+groups-joined zero least more (e ∷ es) all few = absurd (omega arith)
+groups-joined (suc count) least more es all few =
+    let size : ℕ = least + min more 1 in
+    ap (λ rest. take size es ++ rest) (groups-joined count least (more - 1) (drop size es) (omega (arith, length-drop size es, all)) (omega arith))
+    ∙ take-append-drop size es
 
 abbrev pub HasNoComma : List ℕ → Type 0
 HasNoComma e = Each (λ b. (b == 44) ≡ false) e

@@ -59,6 +59,7 @@ no_later (Some v) = refl
 
 pub record HasParts (connector : List ℕ) (field : Field) (es : Texts) (parts : List PartKey) : Type 0 where
   pub origin : (p : PartKey) → Contains parts p → (e : List ℕ) × (is_in e es ≡ true) × (part_of connector field e ≡ Some p)
+  pub all : parts ≡ filter_map (part_of connector field) es
 
 first_or_later : (q p : PartKey) (ps : List PartKey) → Contains (q ∷ ps) p → (q ≡ p) ⊎ Contains ps p
 first_or_later q p ps (zero, within, is) = inl is
@@ -71,7 +72,7 @@ the_part (Some p) e = (p, refl)
 -- elements of which each names a part have parts, each of which comes from one
 pub parts_there : (connector : List ℕ) (field : Field) (found : List PartKey) (es : Texts) → Each (λ e. IsSome (part_of connector field e)) es
     → (parts : List PartKey) × (parts_behind found connector field es ≡ Some (found ++ parts)) × HasParts connector field es parts
-parts_there connector field found [] all = ([], ap Some (sym (append-nil found)), record { origin = λ p inside. absurd (omega (arith, inside.1)) })
+parts_there connector field found [] all = ([], ap Some (sym (append-nil found)), record { origin = λ p inside. absurd (omega (arith, inside.1)); all = refl })
 parts_there connector field found (e ∷ es) all =
     let here = the_part (part_of connector field e) all.0 in
     let rest = parts_there connector field (found ++ here.0 ∷ []) es all.1 in (
@@ -82,6 +83,7 @@ parts_there connector field found (e ∷ es) all =
           | inl is ↦ (e, ap (λ b. b || is_in e es) (bytes_same e), here.1 ∙ ap Some is)
           | inr later ↦ let it = rest.2.origin p later in (it.0, or_right (bytes_eq e it.0) (is_in it.0 es) it.1, it.2)
         ];
+        all = ap (λ ps. here.0 ∷ ps) rest.2.all ∙ ap (λ o. cons_option o (filter_map (part_of connector field) es)) (sym here.1);
       },
     )
 
@@ -143,6 +145,11 @@ task_there connector field es config of = ap is_some of.is
 parts_are : (connector : List ℕ) (field : Field) (es : Texts) (config : Props) (of : IsTaskOf connector field es config) → parts_at connector config ≡ of.task.parts
 unfolding parts_at
 parts_are connector field es config of = ap (λ o. option_map_or (λ (task : TaskSpec). task.parts) o []) of.is
+
+-- the parts of a task are those of its elements
+pub parts_all : (connector : List ℕ) (field : Field) (es : Texts) (config : Props) → IsTaskOf connector field es config
+    → parts_at connector config ≡ filter_map (part_of connector field) es
+parts_all connector field es config of = parts_are connector field es config of ∙ of.parts.all
 
 -- tasks of elements that are apart share no part
 pub share_none : (connector : List ℕ) (field : Field) (g h : Texts) (a b : Props) → IsTaskOf connector field g a → IsTaskOf connector field h b → Apart g h → ShareNone (parts_at connector a) (parts_at connector b)

@@ -1,6 +1,6 @@
--- When a connector's config may be taken, and which fault comes first. Kafka Connect checks a config before it stores it; the
--- faults and their order are this project's own.
-use Rattle.std.specs.Prelude.{◌≡◌, ◌≢◌, ℕ, ◌==◌, Bool, true, false, not, List, [], ◌∷◌, length, Option, Some, None, option_map, Result, Ok, Err, MatchResult, codes, bytes_eq, if◌then◌else◌}
+-- When a connector's config may be taken, and which fault comes first. Kafka Connect checks a config before it stores
+-- it; the faults and their order are this project's own.
+use Rattle.std.specs.Prelude.{ℕ, ◌==◌, Bool, true, false, not, List, [], ◌∷◌, length, Option, Some, None, option_map, Result, Ok, Err, codes, bytes_eq, if◌then◌else◌}
 use Rattle.std.specs.List.{list_any}
 use Rattle.std.specs.Option.{is_none}
 use Rattle.cw_types.specs.Name.{name_fault}
@@ -9,7 +9,7 @@ use Rattle.cw_plugin.specs.declared.class.Class.{Class}
 use Rattle.cw_plugin.specs.declared.class.Field.{Field}
 use Rattle.cw_plugin.specs.declared.class.Field.TheVariants.{Feed, Feeds, Sequences, Count, Topic, Outlet, Topics}
 use Rattle.cw_plugin.specs.declared.fault.PluginFault.{PluginFault}
-use Rattle.cw_plugin.specs.declared.fault.PluginFault.TheVariants.{NoClass, UnknownClass, Missing, BadInt, NoFeed, BadName, Memory}
+use Rattle.cw_plugin.specs.declared.fault.PluginFault.TheVariants.{NoClass, UnknownClass, Missing, BadInt, NoFeed, BadName}
 use Rattle.cw_plugin.specs.Classes.{ClassRow, row_of, class_of, key_of, is_list}
 use Rattle.cw_plugin.specs.Lists.{elements}
 use Rattle.cw_plugin.specs.Numbers.{tasks_max, batch_size, sequences, count}
@@ -35,7 +35,8 @@ is_lacking field (Some text) = if is_list field then length text == 0 else false
 -- the first required key that is lacking
 abbrev pub missing_key : List (List ℕ × List ℕ) → List Field → Option (List ℕ)
 missing_key props [] = None
-missing_key props (field ∷ more) = if is_lacking field (value_in props (key_of field)) then Some (key_of field) else missing_key props more
+missing_key props (field ∷ more) =
+    if is_lacking field (value_in props (key_of field)) then Some (key_of field) else missing_key props more
 
 -- whether a required value is no number, or none in its range, where one is due
 abbrev pub is_bad_number : Field → List ℕ → Bool
@@ -133,7 +134,3 @@ class_called is_loaded props (Some text) = class_unless is_loaded props (class_o
 -- the class of a config, or its first fault
 abbrev pub checked : (List ℕ → Bool) → List (List ℕ × List ℕ) → Result Class PluginFault
 checked is_loaded props = class_called is_loaded props (value_in props (codes "connector.class"))
-
--- a call gives just what is meant, unless memory ran out
-abbrev pub Gives : {A : Type 0} → Result A PluginFault → Result A PluginFault → Type 0
-Gives result meant = MatchResult result (λ x. meant ≡ Ok x) (λ fault. fault ≢ Memory → meant ≡ Err fault)

@@ -1,5 +1,5 @@
--- The connector classes: what each is called, which properties it requires, and what its tasks share out. The FileStream
--- classes are Kafka's own and have Kafka's names; the other two are this project's.
+-- The connector classes: what each is called, which properties it requires, and what its tasks share out. The
+-- FileStream classes are Kafka's own and have Kafka's names; the other two are this project's.
 use Rattle.std.specs.Prelude.{ℕ, Bool, true, false, List, [], ◌∷◌, Option, Some, None, codes, bytes_eq, if◌then◌else◌}
 use Rattle.cw_plugin.specs.declared.class.Class.{Class}
 use Rattle.cw_plugin.specs.declared.class.Class.TheVariants.{FileStreamSource, FileSetSource, SequenceSource, FileStreamSink}
@@ -95,7 +95,8 @@ class_of text = class_among classes text
 -- the first class whose tasks are called so
 abbrev pub task_class_among : List Class → List ℕ → Option Class
 task_class_among [] text = None
-task_class_among (class ∷ more) text = if bytes_eq (row_of class).task text then Some class else task_class_among more text
+task_class_among (class ∷ more) text =
+    if bytes_eq (row_of class).task text then Some class else task_class_among more text
 
 -- the class whose tasks are called so
 abbrev pub task_class_of : List ℕ → Option Class

@@ -1,4 +1,5 @@
 pub mod Checks
+pub mod Loaded
 pub mod Classes
 pub mod Lists
 pub mod Numbers

@@ -1,5 +1,5 @@
--- Lists in properties: elements parted by commas, as in Connect's `topics`. That no blank is trimmed is this project's own
--- rule.
+-- Lists in properties: elements parted by commas, as in Connect's `topics`. That no blank is trimmed is this project's
+-- own rule.
 use Rattle.std.specs.Prelude.{ℕ, ◌==◌, Bool, false, true, List, [], ◌∷◌, bytes_eq, if◌then◌else◌}
 use Rattle.std.specs.List.{slice_split, list_any}
 

@@ -1,5 +1,5 @@
--- What a task reads or writes, by its properties. Kafka Connect hands a task its properties alone; which ones there are is
--- this project's own.
+-- What a task reads or writes, by its properties. Kafka Connect hands a task its properties alone; which ones there are
+-- is this project's own.
 use Rattle.std.specs.Prelude.{ℕ, ◌++◌, List, [], ◌∷◌, Option, Some, None, option_map, option_and_then, codes, if◌then◌else◌}
 use Rattle.cw_json.specs.Pairs.{value_in}
 use Rattle.cw_types.specs.declared.ids.PartKey.{PartKey}
@@ -39,16 +39,24 @@ pieces Topic text = []
 pieces Outlet text = []
 pieces Topics text = elements text
 
+-- the parts of elements, if each names one and none stands twice
+abbrev pub parts_unless_repeated : List ℕ → Field → List (List ℕ) → Option (List PartKey)
+parts_unless_repeated connector field es = if has_repeat es then None else parts_behind [] connector field es
+
 -- the parts that a value names; a repeat is refused
 abbrev pub parts_of : List ℕ → Field → List ℕ → Option (List PartKey)
-parts_of connector field text = if has_repeat (pieces field text) then None else parts_behind [] connector field (pieces field text)
+parts_of connector field text = parts_unless_repeated connector field (pieces field text)
+
+-- a task with these parts, if there are some
+abbrev pub with_parts : TaskSpec → Option (List PartKey) → Option TaskSpec
+with_parts spec found = option_map (λ parts. record spec { parts = parts }) found
 
 -- what a value adds to a task
 abbrev pub with_value : List ℕ → TaskSpec → Field → List ℕ → Option TaskSpec
-with_value connector spec Feed text = option_map (λ parts. record spec { parts = parts }) (parts_of connector Feed text)
-with_value connector spec Feeds text = option_map (λ parts. record spec { parts = parts }) (parts_of connector Feeds text)
-with_value connector spec Sequences text = option_map (λ parts. record spec { parts = parts }) (parts_of connector Sequences text)
-with_value connector spec Topics text = option_map (λ parts. record spec { parts = parts }) (parts_of connector Topics text)
+with_value connector spec Feed text = with_parts spec (parts_of connector Feed text)
+with_value connector spec Feeds text = with_parts spec (parts_of connector Feeds text)
+with_value connector spec Sequences text = with_parts spec (parts_of connector Sequences text)
+with_value connector spec Topics text = with_parts spec (parts_of connector Topics text)
 with_value connector spec Count text = option_map (λ n. record spec { count = n }) (count text)
 with_value connector spec Topic text = if is_name text then Some (record spec { topic = Some text }) else None
 with_value connector spec Outlet text = if is_name text then Some (record spec { file = Some text }) else None
@@ -71,9 +79,11 @@ idle_task class batch = record { class = class; parts = []; topic = None; file =
 -- a task of a class
 abbrev pub task_of_class : List ℕ → List (List ℕ × List ℕ) → Class → Option TaskSpec
 task_of_class connector props class =
-    option_and_then (λ batch. with_fields connector props (idle_task class batch) (row_of class).fields) (task_batch props (row_of class))
+    option_and_then (λ batch. with_fields connector props (idle_task class batch) (row_of class).fields)
+    (task_batch props (row_of class))
 
 -- the task that properties stand for
 abbrev pub task_of : List ℕ → List (List ℕ × List ℕ) → Option TaskSpec
 task_of connector props =
-    option_and_then (λ class. task_of_class connector props class) (option_and_then task_class_of (value_in props (codes "task.class")))
+    option_and_then (λ class. task_of_class connector props class)
+    (option_and_then task_class_of (value_in props (codes "task.class")))

@@ -1,11 +1,13 @@
--- Which tasks a connector has. As in Kafka Connect, there are at most `tasks.max`, and each has properties of its own; how a
--- list is parted among them is this project's own.
-use Rattle.std.specs.Prelude.{ℕ, suc, zero, ◌+◌, ◌-◌, ◌/◌, ◌%◌, min, not, List, [], ◌∷◌, length, take, drop, map, filter, Contains, Option, Some, None, option_map, option_and_then, unwrap_or, codes, decimal, bytes_eq, IsOk, ◌++◌, if◌then◌else◌}
-use Rattle.std.specs.List.{list_any, filter_map, join_with_byte, range_with_len}
+-- Which tasks a connector has. As in Kafka Connect, there are at most `tasks.max`, and each has properties of its own;
+-- how a list is parted among them is this project's own.
+use Rattle.std.specs.Prelude.{◌≡◌, ℕ, suc, zero, ◌+◌, ◌-◌, ◌/◌, ◌%◌, min, not, List, [], ◌∷◌, length, take, drop, map, filter, Contains, All, AllPairs, Option, Some, None, option_map, option_and_then, unwrap_or, codes, decimal, bytes_eq, IsOk, IsSome, ◌++◌, if◌then◌else◌}
+use Rattle.std.specs.List.{list_any, filter_map, flat_map, join_with_byte, range_with_len}
 use Rattle.std.specs.Option.{option_map_or}
 use Rattle.cw_types.specs.declared.ids.PartKey.{PartKey}
+use Rattle.cw_types.specs.declared.ids.PartKey.TheVariants.{File, Seq, Sink}
 use Rattle.cw_json.specs.Pairs.{value_in}
 use Rattle.cw_plugin.specs.declared.class.Class.{Class}
+use Rattle.cw_plugin.specs.declared.class.Class.TheVariants.{FileStreamSource, FileSetSource, SequenceSource, FileStreamSink}
 use Rattle.cw_plugin.specs.declared.class.Field.{Field}
 use Rattle.cw_plugin.specs.declared.class.Field.TheVariants.{Feed, Feeds, Sequences, Count, Topic, Outlet, Topics}
 use Rattle.cw_plugin.specs.declared.class.TaskField.{TaskField}
@@ -42,7 +44,8 @@ shared_in Topics text = once (elements text)
 -- groups of `least` elements, one behind the other, of which the first `more` have one more
 unfoldable pub groups : ℕ → ℕ → ℕ → List (List ℕ) → List (List (List ℕ))
 groups zero least more es = []
-groups (suc count) least more es = take (least + min more 1) es ∷ groups count least (more - 1) (drop (least + min more 1) es)
+groups (suc count) least more es =
+    take (least + min more 1) es ∷ groups count least (more - 1) (drop (least + min more 1) es)
 
 -- the texts of a number of groups, as even as may be
 abbrev pub parted : ℕ → List (List ℕ) → List (List ℕ)
@@ -93,6 +96,36 @@ task_configs props = option_map_or (λ class. configs_of_class props (row_of cla
 unfoldable pub parts_at : List ℕ → List (List ℕ × List ℕ) → List PartKey
 parts_at connector config = option_map_or (λ task. task.parts) (task_of connector config) []
 
+-- what a config of a class reads or writes, each part once
+abbrev pub class_parts : List ℕ → List (List ℕ × List ℕ) → Class → List PartKey
+class_parts connector props FileStreamSource =
+    option_map_or (λ file. File connector file ∷ []) (value_in props (codes "file")) []
+class_parts connector props FileSetSource =
+    option_map_or (λ text. map (File connector) (once (elements text))) (value_in props (codes "files")) []
+class_parts connector props SequenceSource =
+    option_map_or (λ text. map (Seq connector) (range_with_len 0 (unwrap_or (sequences text) 0)))
+    (value_in props (codes "partitions")) []
+class_parts connector props FileStreamSink =
+    option_map_or (λ text. map (Sink connector) (once (elements text))) (value_in props (codes "topics")) []
+
+-- what a connector's config reads or writes
+abbrev pub config_parts : List ℕ → List (List ℕ × List ℕ) → List PartKey
+config_parts connector props = option_map_or (class_parts connector props) (class_in props) []
+
+-- nothing is left out: the parts of all tasks, joined in their order, are the config's
+abbrev pub HaveAllParts : List (List ℕ × List ℕ) → List (List (List ℕ × List ℕ)) → Type 0
+HaveAllParts props configs =
+    (connector : List ℕ) → flat_map (parts_at connector) configs ≡ config_parts connector props
+
+-- each of some configs is a task's, whatever its connector is called
+abbrev pub AreTaskConfigs : List (List (List ℕ × List ℕ)) → Type 0
+AreTaskConfigs configs = (connector : List ℕ) → All (λ config. IsSome (task_of connector config)) configs
+
 -- no part is one of both
 abbrev pub ShareNone : List PartKey → List PartKey → Type 0
 ShareNone a b = (part : PartKey) → Contains a part → Contains b part → ⊥
+
+-- no part is in two of them
+abbrev pub AreApart : List (List (List ℕ × List ℕ)) → Type 0
+AreApart configs =
+    (connector : List ℕ) → AllPairs (λ a b. ShareNone (parts_at connector a) (parts_at connector b)) configs

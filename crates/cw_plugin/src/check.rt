@@ -1,10 +1,12 @@
 //! Whether a connector's config may be taken.
-ghost use Rattle.std.specs.Prelude.{◌≡◌, true, IfOk, OnOk, option_map, not};
+ghost use Rattle.std.specs.Prelude.{◌≡◌, ◌↔◌, true, IfOk, IsTrue, OnOk, option_map, not};
 ghost use Rattle.std.specs.Bool.{OnTrue};
 ghost use Rattle.std.specs.List.{list_any};
+ghost use Rattle.cw_types.specs.Answers.{Gives};
 ghost use Rattle.cw_json.specs.Pairs.{value_in};
 ghost use Rattle.cw_plugin.specs.Classes.{row_of, key_of};
-ghost use Rattle.cw_plugin.specs.Checks.{Gives, checked, fault_of_class, is_name, is_among, first_failing, is_lacking, missing_key, is_bad_number, is_value_bad, bad_key, bad_number, feed_lacking_in, value_feed_lacking, feed_lacking, is_bad_name};
+ghost use Rattle.cw_plugin.specs.Checks.{checked, fault_of_class, is_name, is_among, first_failing, is_lacking, missing_key, is_bad_number, is_value_bad, bad_key, bad_number, feed_lacking_in, value_feed_lacking, feed_lacking, is_bad_name};
+ghost use Rattle.cw_plugin.specs.Loaded.{is_loaded_by};
 ghost use Rattle.cw_plugin.specs.Tasks.{IsFaultless};
 
 use crate::class::{Class, Field, class_of, row_of};
@@ -12,7 +14,7 @@ use crate::fault::PluginFault;
 use crate::lists::elements;
 use crate::numbers::{batch_size, count, sequences, tasks_max};
 use cw_json::{Props, Text};
-use cw_types::{Name, NameFault};
+use cw_types::Name;
 use std::alloc::{AllocError, Global};
 
 // Whether a required value is lacking.
@@ -79,7 +81,16 @@ fn bad_number(props: &Props, class: Class) -> Option<&'static str>
     bad_required_number(props, row.fields)
 }
 
-fn is_loaded(feeds: &[Name], text: &Text) -> bool
+/// Which feeds a check takes as loaded.
+#[derive(Clone, Copy, Drop)]
+pub(crate) enum Loaded<'a> {
+    /// These alone.
+    These(&'a [Name]),
+    /// All that have a name.
+    Any,
+}
+
+fn is_one_of(feeds: &[Name], text: &Text) -> bool
     ensures among { result ≡ is_among feeds.now text.now }
     ensures named { OnTrue result (is_name text.now ≡ true) }
 {
@@ -91,13 +102,27 @@ fn is_loaded(feeds: &[Name], text: &Text) -> bool
     false
 }
 
+fn is_loaded(alloc: Global, feeds: Loaded<'_>, text: &Text) -> Result<bool, AllocError>
+    ensures test { IfOk result (λ is. is ≡ is_loaded_by feeds.entry text.now) }
+    ensures named { IfOk result (λ is. is ≡ true → is_name text.now ≡ true) }
+{
+    match feeds {
+        Loaded::These(names) => Ok(is_one_of(names, text)),
+        Loaded::Any => is_name(alloc, text),
+    }
+}
+
 // The first of some feeds that isn't loaded.
-fn first_unloaded(feeds: &[Name], texts: &[Text]) -> Result<Option<Text>, AllocError>
-    ensures first { IfOk result (λ feed. feed ≡ first_failing (is_among feeds.now) texts.now) }
+fn first_unloaded(
+    alloc: Global,
+    feeds: Loaded<'_>,
+    texts: &[Text],
+) -> Result<Option<Text>, AllocError>
+    ensures first { IfOk result (λ feed. feed ≡ first_failing (is_loaded_by feeds.entry) texts.now) }
     ensures named { IfOk result (λ feed. feed ≡ None → first_failing is_name texts.now ≡ None) }
 {
     for text in texts {
-        if !is_loaded(feeds, text) {
+        if !is_loaded(alloc, feeds, text)? {
             return Ok(Some(text.copy()?));
         }
     }
@@ -107,16 +132,16 @@ fn first_unloaded(feeds: &[Name], texts: &[Text]) -> Result<Option<Text>, AllocE
 // The first feed in a value that isn't loaded.
 fn feed_lacking_in(
     alloc: Global,
-    feeds: &[Name],
+    feeds: Loaded<'_>,
     field: Field,
     text: &Text,
 ) -> Result<Option<Text>, AllocError>
-    ensures first { IfOk result (λ feed. feed ≡ feed_lacking_in (is_among feeds.now) field text.now) }
+    ensures first { IfOk result (λ feed. feed ≡ feed_lacking_in (is_loaded_by feeds.entry) field text.now) }
     ensures named { IfOk result (λ feed. feed ≡ None → feed_lacking_in is_name field text.now ≡ None) }
 {
     match field {
         Field::Feed => {
-            if is_loaded(feeds, text) {
+            if is_loaded(alloc, feeds, text)? {
                 Ok(None)
             } else {
                 Ok(Some(text.copy()?))
@@ -124,7 +149,7 @@ fn feed_lacking_in(
         }
         Field::Feeds => {
             let found = elements(alloc, text.as_str())?;
-            first_unloaded(feeds, &found)
+            first_unloaded(alloc, feeds, &found)
         }
         _ => Ok(None),
     }
@@ -132,12 +157,14 @@ fn feed_lacking_in(
 
 fn value_feed_lacking(
     alloc: Global,
-    feeds: &[Name],
+    feeds: Loaded<'_>,
     props: &Props,
     field: Field,
 ) -> Result<Option<Text>, AllocError>
-    ensures first { IfOk result (λ feed. feed ≡ value_feed_lacking (is_among feeds.now) field (value_in props.now (key_of field))) }
-    ensures named { IfOk result (λ feed. feed ≡ None → value_feed_lacking is_name field (value_in props.now (key_of field)) ≡ None) }
+    ensures first { IfOk result (λ feed.
+        feed ≡ value_feed_lacking (is_loaded_by feeds.entry) field (value_in props.now (key_of field))) }
+    ensures named { IfOk result (λ feed.
+        feed ≡ None → value_feed_lacking is_name field (value_in props.now (key_of field)) ≡ None) }
 {
     match props.get(field.key()) {
         Some(text) => feed_lacking_in(alloc, feeds, field, text),
@@ -148,11 +175,11 @@ fn value_feed_lacking(
 // The first feed that isn't loaded.
 fn feed_lacking(
     alloc: Global,
-    feeds: &[Name],
+    feeds: Loaded<'_>,
     props: &Props,
     fields: &[Field],
 ) -> Result<Option<Text>, AllocError>
-    ensures first { IfOk result (λ feed. feed ≡ feed_lacking (is_among feeds.now) props.now fields.now) }
+    ensures first { IfOk result (λ feed. feed ≡ feed_lacking (is_loaded_by feeds.entry) props.now fields.now) }
     ensures named { IfOk result (λ feed. feed ≡ None → feed_lacking is_name props.now fields.now ≡ None) }
 {
     for field in fields {
@@ -167,11 +194,7 @@ fn feed_lacking(
 fn is_name(alloc: Global, text: &Text) -> Result<bool, AllocError>
     ensures { IfOk result (λ is. is ≡ is_name text.now) }
 {
-    match Name::read(alloc, text.as_str().as_bytes()) {
-        Ok(_) => Ok(true),
-        Err(NameFault::Memory) => Err(AllocError),
-        Err(_) => Ok(false),
-    }
+    Ok(Name::from_bytes(alloc, text.as_str().as_bytes())?.is_some())
 }
 
 // Whether some text is no name.
@@ -228,10 +251,10 @@ fn bad_name(
 fn fault_of_class(
     alloc: Global,
     props: &Props,
-    feeds: &[Name],
+    feeds: Loaded<'_>,
     class: Class,
 ) -> Result<Option<PluginFault>, AllocError>
-    ensures first { IfOk result (λ fault. fault ≡ fault_of_class (is_among feeds.now) props.now (row_of class)) }
+    ensures first { IfOk result (λ fault. fault ≡ fault_of_class (is_loaded_by feeds.entry) props.now (row_of class)) }
     ensures named { IfOk result (λ fault. fault ≡ None → fault_of_class is_name props.now (row_of class) ≡ None) }
 {
     let fields = row_of(class).fields;
@@ -250,11 +273,9 @@ fn fault_of_class(
     }
 }
 
-/// The class of a connector's config, or the first fault that it has, where these feeds are loaded.
-/// The faults come in the order of `PluginFault`; in each, required keys come in the order of the
-/// class's row, and numbers in the order `tasks.max`, `batch.size`, `partitions`, `count`.
-pub fn check_config(alloc: Global, props: &Props, feeds: &[Name]) -> Result<Class, PluginFault>
-    ensures class { Gives result (checked (is_among feeds.now) props.now) }
+// The class of properties, or their first fault.
+fn checked(alloc: Global, props: &Props, feeds: Loaded<'_>) -> Result<Class, PluginFault>
+    ensures class { Gives PluginFault.Memory result (checked (is_loaded_by feeds.entry) props.now) }
     ensures faultless { OnOk result (IsFaultless props.now) }
 {
     let Some(text) = props.get("connector.class") else {
@@ -266,5 +287,28 @@ pub fn check_config(alloc: Global, props: &Props, feeds: &[Name]) -> Result<Clas
     match fault_of_class(alloc, props, feeds, class)? {
         Some(fault) => Err(fault),
         None => Ok(class),
+    }
+}
+
+/// The class of a connector's config, or the first fault that it has, where these feeds are loaded.
+/// The faults come in the order of `PluginFault`; in each, required keys come in the order of the
+/// class's row, and numbers in the order `tasks.max`, `batch.size`, `partitions`, `count`.
+pub fn check_config(alloc: Global, props: &Props, feeds: &[Name]) -> Result<Class, PluginFault>
+    ensures class { Gives PluginFault.Memory result (checked (is_among feeds.now) props.now) }
+    ensures faultless { OnOk result (IsFaultless props.now) }
+{
+    checked(alloc, props, Loaded::These(feeds))
+}
+
+/// Whether a connector's config is one in which `check_config` would meet no fault, were each feed that it
+/// names loaded. Such a config stands in the config log, and has tasks, while its feeds may be gone.
+#[tactic(auto, unfolding(crate::specs::Tasks::IsFaultless))]
+pub fn is_faultless(alloc: Global, props: &Props) -> Result<bool, AllocError>
+    ensures { IfOk result (λ is. IsTrue is ↔ IsFaultless props.now) }
+{
+    match checked(alloc, props, Loaded::Any) {
+        Ok(_) => Ok(true),
+        Err(PluginFault::Memory) => Err(AllocError),
+        Err(_) => Ok(false),
     }
 }

@@ -15,22 +15,22 @@ pub enum Class {
     FileStreamSink,
 }
 
-// A property that a class requires.
+/// A property that a class requires.
 #[derive(Clone, Copy, Debug, PartialEq, Eq, Drop)]
 pub enum Field {
-    // `file`, a feed.
+    /// `file`, a feed.
     Feed,
-    // `files`, a list of feeds.
+    /// `files`, a list of feeds.
     Feeds,
-    // `partitions`, how many sequences there are.
+    /// `partitions`, how many sequences there are.
     Sequences,
-    // `count`, how many records a sequence has.
+    /// `count`, how many records a sequence has.
     Count,
-    // `topic`, where a source writes.
+    /// `topic`, where a source writes.
     Topic,
-    // `file`, where a sink writes.
+    /// `file`, where a sink writes.
     Outlet,
-    // `topics`, a list of what a sink reads.
+    /// `topics`, a list of what a sink reads.
     Topics,
 }
 
@@ -57,16 +57,16 @@ impl Field {
     }
 }
 
-// A property of a task.
+/// A property of a task.
 #[derive(Clone, Copy, Debug, PartialEq, Eq, Drop)]
 pub enum TaskField {
-    // `task.class`, what its class's tasks are called.
+    /// `task.class`, what its class's tasks are called.
     TaskClass,
-    // `batch.size`, where its connector has one.
+    /// `batch.size`, where its connector has one.
     BatchSize,
-    // A required property, as its connector has it.
+    /// A required property, as its connector has it.
     Whole(Field),
-    // A list, of which a task has its group.
+    /// A list, of which a task has its group.
     Group(Field),
 }
 

@@ -1,11 +1,10 @@
 //! The properties of a connector's tasks.
-ghost use Rattle.std.specs.Prelude.{◌≡◌, ◌++◌, List, ℕ, All, AllPairs, IfOk, OnOk, IsSome, map};
+ghost use Rattle.std.specs.Prelude.{◌≡◌, ◌++◌, IfOk, OnOk, map};
 ghost use Rattle.std.specs.List.{filter_map};
 ghost use Rattle.std.specs.Option.{option_to_list, option_copied};
 ghost use Rattle.cw_json.specs.Pairs.{value_in};
 ghost use Rattle.cw_plugin.specs.Classes.{row_of};
-ghost use Rattle.cw_plugin.specs.Parts.{task_of};
-ghost use Rattle.cw_plugin.specs.Tasks.{IsFaultless, ShareNone, class_in, configs_of_class, parts_at, task_config, task_configs, task_pair, task_value};
+ghost use Rattle.cw_plugin.specs.Tasks.{IsFaultless, AreTaskConfigs, AreApart, HaveAllParts, class_in, configs_of_class, task_config, task_configs, task_pair, task_value};
 
 use crate::class::{Class, TaskField, class_of, row_of};
 use crate::shares::shares;
@@ -49,7 +48,8 @@ fn add_pair(
     share: &Text,
     field: TaskField,
 ) -> Result<(), AllocError>
-    ensures { OnOk result (pairs.new.items ≡ pairs.old.items ++ option_to_list (task_pair props.now (row_of class) share.now field)) }
+    ensures { OnOk result (pairs.new.items ≡
+        pairs.old.items ++ option_to_list (task_pair props.now (row_of class) share.now field)) }
 {
     match task_value(alloc, props, class, share, field)? {
         Some(value) => {
@@ -68,7 +68,8 @@ fn task_pairs(
     share: &Text,
     fields: &[TaskField],
 ) -> Result<Vec<(Text, Text)>, AllocError>
-    ensures { IfOk result (λ pairs. pairs.items ≡ filter_map (task_pair props.now (row_of class) share.now) fields.now) }
+    ensures { IfOk result (λ pairs.
+        pairs.items ≡ filter_map (task_pair props.now (row_of class) share.now) fields.now) }
 {
     let mut pairs = Vec::new(alloc);
     for field in fields {
@@ -127,12 +128,14 @@ fn class_in(props: &Props) -> Option<Class>
 /// The properties of each task of a connector whose config has no fault, its feeds put aside, as a
 /// config has of which `check_config` gave the class. What the class's tasks share out is parted into
 /// as many contiguous groups as there may be tasks, if there are as many elements; the first groups
-/// have one more where they aren't even. `task_of` takes each, and no part is in two of them.
+/// have one more where they aren't even. `task_of` takes each, no part is in two of them, and all parts of
+/// the config are in one.
 pub fn task_configs(alloc: Global, props: &Props) -> Result<Vec<Props>, AllocError>
     requires { IsFaultless props.now }
     ensures configs { IfOk result (λ configs. configs.items ≡ task_configs props.now) }
-    ensures tasks { IfOk result (λ configs. (connector : List ℕ) → All (λ config. IsSome (task_of connector config)) configs.items) }
-    ensures apart { IfOk result (λ configs. (connector : List ℕ) → AllPairs (λ a b. ShareNone (parts_at connector a) (parts_at connector b)) configs.items) }
+    ensures tasks { IfOk result (λ configs. AreTaskConfigs configs.items) }
+    ensures apart { IfOk result (λ configs. AreApart configs.items) }
+    ensures whole { IfOk result (λ configs. HaveAllParts props.now configs.items) }
 {
     match class_in(props) {
         Some(class) => configs_of_class(alloc, props, class),

@@ -2,7 +2,8 @@
 //! writes.
 //!
 //! Its public contract says of each config which class it has or which refusal comes first, which
-//! properties its tasks have, of which no two share a part, and which parts a task's properties name.
+//! properties its tasks have, of which no two share a part and all together have the config's, and which parts a
+//! task's properties name.
 //! It stands on the names and numbers of `cw_types` and the properties of `cw_json`.
 #![tactic(auto)]
 
@@ -15,7 +16,7 @@ mod numbers;
 mod shares;
 mod task;
 
-pub use check::check_config;
+pub use check::{check_config, is_faultless};
 pub use class::Class;
 pub use configs::task_configs;
 pub use fault::PluginFault;

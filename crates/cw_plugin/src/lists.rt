@@ -8,7 +8,8 @@ use std::alloc::{AllocError, Global};
 
 // What stands before the first comma, and behind it.
 fn cut_first(text: &str) -> Option<(&str, &str)>
-    ensures { MatchOption result (elements text.now ≡ text.now ∷ []) (λ parts. (elements text.now ≡ parts.0.now ∷ elements parts.1.now) × (length parts.1.now < length text.now)) }
+    ensures { MatchOption result (elements text.now ≡ text.now ∷ []) (λ parts.
+        (elements text.now ≡ parts.0.now ∷ elements parts.1.now) × (length parts.1.now < length text.now)) }
 {
     text.split_once(',')
 }

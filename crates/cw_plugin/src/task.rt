@@ -1,16 +1,15 @@
 //! What a task reads or writes.
-ghost use Rattle.std.specs.Prelude.{◌≡◌, [], IfOk, option_map, if◌then◌else◌};
+ghost use Rattle.std.specs.Prelude.{◌≡◌, [], IfOk, if◌then◌else◌};
 ghost use Rattle.cw_json.specs.Pairs.{value_in};
 ghost use Rattle.cw_plugin.specs.Classes.{row_of, key_of};
 ghost use Rattle.cw_plugin.specs.Checks.{is_name};
-ghost use Rattle.cw_plugin.specs.Lists.{has_repeat};
-ghost use Rattle.cw_plugin.specs.Parts.{part_of, parts_behind, pieces, parts_of, with_value, with_fields, task_batch, task_of_class, task_of};
+ghost use Rattle.cw_plugin.specs.Parts.{part_of, parts_behind, parts_unless_repeated, with_parts, pieces, parts_of, with_value, with_fields, task_batch, task_of_class, task_of};
 
 use crate::class::{Class, Field, row_of, task_class_of};
 use crate::lists::{elements, has_repeat};
 use crate::numbers::{batch_size, count, part_number};
 use cw_json::{Props, Text};
-use cw_types::{Listed, Name, NameFault, PartKey};
+use cw_types::{Listed, Name, PartKey};
 use std::alloc::{AllocError, Global};
 
 /// What a task does.
@@ -30,15 +29,46 @@ pub struct TaskSpec {
     pub count: u64,
 }
 
+impl TaskSpec {
+    /// A copy.
+    pub fn copy(&self, alloc: Global) -> Result<Self, AllocError>
+        ensures { IfOk result (λ spec. spec ≡ self.now) }
+    {
+        Ok(TaskSpec {
+            class: self.class,
+            parts: copy_of_parts(alloc, &self.parts)?,
+            topic: copy_of_name(&self.topic)?,
+            file: copy_of_name(&self.file)?,
+            batch: self.batch,
+            count: self.count,
+        })
+    }
+}
+
+fn copy_of_name(name: &Option<Name>) -> Result<Option<Name>, AllocError>
+    ensures { IfOk result (λ copy. copy ≡ name.now) }
+{
+    match name {
+        Some(name) => Ok(Some(name.copy()?)),
+        None => Ok(None),
+    }
+}
+
+fn copy_of_parts(alloc: Global, parts: &Listed<PartKey>) -> Result<Listed<PartKey>, AllocError>
+    ensures { IfOk result (λ copy. copy ≡ parts.now) }
+{
+    let mut copies = Vec::new(alloc);
+    for part in parts.as_slice() {
+        copies.push(part.copy()?)?;
+    }
+    Ok(Listed::new(copies))
+}
+
 // The name that a text is.
 fn name_of(alloc: Global, text: &Text) -> Result<Option<Name>, AllocError>
     ensures { IfOk result (λ name. name ≡ (if is_name text.now then Some text.now else None)) }
 {
-    match Name::read(alloc, text.as_str().as_bytes()) {
-        Ok(name) => Ok(Some(name)),
-        Err(NameFault::Memory) => Err(AllocError),
-        Err(_) => Ok(None),
-    }
+    Name::from_bytes(alloc, text.as_str().as_bytes())
 }
 
 // The feed of a connector that a text names.
@@ -131,7 +161,7 @@ fn parts_unless_repeated(
     field: Field,
     texts: &[Text],
 ) -> Result<Option<Listed<PartKey>>, AllocError>
-    ensures { IfOk result (λ parts. parts ≡ (if has_repeat texts.now then None else parts_behind [] connector.now field texts.now)) }
+    ensures { IfOk result (λ parts. parts ≡ parts_unless_repeated connector.now field texts.now) }
 {
     if has_repeat(texts) {
         return Ok(None);
@@ -153,7 +183,7 @@ fn parts_of(
 }
 
 fn with_parts(spec: TaskSpec, parts: Option<Listed<PartKey>>) -> Option<TaskSpec>
-    ensures { result ≡ option_map (λ them. record spec { parts = them }) parts }
+    ensures { result ≡ with_parts spec parts }
 {
     match parts {
         Some(parts) => Some(TaskSpec { parts, ..spec }),

@@ -23,6 +23,24 @@ pub enum LineKind {
     BadName,
 }
 
+impl LineKind {
+    ghost use Rattle.cw_script.specs.Faults.{kind_text};
+
+    /// The kind's name, as an answer tells it.
+    pub fn name(&self) -> &'static str
+        ensures { result.now ≡ kind_text self.now }
+    {
+        match self {
+            LineKind::NoWord => "NoWord",
+            LineKind::Count => "Count",
+            LineKind::Number => "Number",
+            LineKind::NoWorker => "NoWorker",
+            LineKind::NoInstance => "NoInstance",
+            LineKind::BadName => "BadName",
+        }
+    }
+}
+
 impl fmt::Display for LineKind {
     ghost use Rattle.std.specs.Prelude.{Some};
     ghost use Rattle.cw_script.specs.Faults.{kind_text};
@@ -30,14 +48,7 @@ impl fmt::Display for LineKind {
     ghost output = { λ kind. Some (kind_text kind) };
 
     fn fmt<W: fmt::Write>(&self, f: &mut fmt::Formatter<W>) -> fmt::Result {
-        f.write_str(match self {
-            LineKind::NoWord => "NoWord",
-            LineKind::Count => "Count",
-            LineKind::Number => "Number",
-            LineKind::NoWorker => "NoWorker",
-            LineKind::NoInstance => "NoInstance",
-            LineKind::BadName => "BadName",
-        })
+        f.write_str(self.name())
     }
 }
 
