@@ -57,23 +57,23 @@ abbrev pub statuses_in : List (List Applied) → List StampedStatus
 statuses_in frames = filter_map status_in (joined frames)
 
 -- how many bytes the config log has, as its records are spelled there
-abbrev pub config_length : {J : Type 0} → Cluster J → ℕ
+abbrev pub config_length : Cluster → ℕ
 config_length s = length_of (map records_bytes s.config.frames)
 
 -- how many bytes the offset log has
-abbrev pub offsets_length : {J : Type 0} → Cluster J → ℕ
+abbrev pub offsets_length : Cluster → ℕ
 offsets_length s = length_of (map offset_body s.offsets.frames)
 
 -- how many bytes the status log has
-abbrev pub status_length : {J : Type 0} → Cluster J → ℕ
+abbrev pub status_length : Cluster → ℕ
 status_length s = length_of (map records_bytes s.status.frames)
 
 -- how many bytes the transaction log has
-abbrev pub txn_length : {J : Type 0} → Cluster J → ℕ
+abbrev pub txn_length : Cluster → ℕ
 txn_length s = length_of (map entries_bytes s.txn)
 
 -- how many bytes the data log has
-abbrev pub data_length : {J : Type 0} → Cluster J → ℕ
+abbrev pub data_length : Cluster → ℕ
 data_length s = length_of (map data_body s.batches)
 
 -- how many bytes the frame of a body has

@@ -54,7 +54,7 @@ use Rattle.cw_model.specs.EventsLeading.{claim_lead, append_config, fence_one, a
 
 -- a cluster whose journal has numbers for its calls
 abbrev pub Small : Type 0
-Small = Cluster ℕ
+Small = Cluster
 
 -- nothing stands in a log, and no worker is there
 abbrev pub empty_cluster : Small
@@ -82,11 +82,11 @@ abbrev pub small_setting : Setting
 small_setting = record { group = []; delay = 300; feeds = []; agreed = true }
 
 -- the state behind an event
-abbrev pub behind : {A : Type 0} → (Small → Answer ℕ A) → Small → Small
+abbrev pub behind : {A : Type 0} → (Small → Answer A) → Small → Small
 behind event s = (event s).1
 
 -- what an event answers
-abbrev pub answer_of : {A : Type 0} → (Small → Answer ℕ A) → Small → Result A WorldFault
+abbrev pub answer_of : {A : Type 0} → (Small → Answer A) → Small → Result A WorldFault
 answer_of event s = (event s).0
 
 -- the state behind several steps
@@ -356,7 +356,7 @@ abbrev pub script_begun_again : Small
 script_begun_again = behind (raw_init 0) script_begun
 
 -- a script's producer commits part 0 up to 5 under an epoch
-abbrev pub commit_five : ℕ → Small → Answer ℕ (List Span)
+abbrev pub commit_five : ℕ → Small → Answer (List Span)
 commit_five n s = raw_commit 0 (epoch n) ((0, 5) ∷ []) s
 
 -- a feed `f`, whose last line has no end

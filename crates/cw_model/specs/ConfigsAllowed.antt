@@ -16,6 +16,7 @@ use Rattle.cw_config.specs.View.{generation_of, task_count_of, target_of, deferr
 use Rattle.cw_config.specs.Acceptance.{end_of, has_tasks}
 use Rattle.cw_plugin.specs.Parts.{task_of}
 use Rattle.cw_plugin.specs.Tasks.{IsFaultless, parts_at, ShareNone}
+use Rattle.cw_model.specs.Lookups.{EachFrom}
 
 -- the parts of a task whose config waits for its commit
 abbrev pub waiting_parts : List ConfigRecord → List ℕ → ℕ → List PartKey
@@ -54,8 +55,7 @@ pub record IsAllowedConfig (before : List ConfigRecord) (r : ConfigRecord) : Typ
 
 -- records that may stand behind these, one after the other
 abbrev pub AreAllowedConfigs : (before : List ConfigRecord) → List ConfigRecord → Type 0
-AreAllowedConfigs before [] = ⊤
-AreAllowedConfigs before (r ∷ records) = IsAllowedConfig before r × AreAllowedConfigs (before ++ r ∷ []) records
+AreAllowedConfigs = EachFrom IsAllowedConfig
 
 -- a key of fences
 abbrev pub is_fence_key : ConfigKey → Bool

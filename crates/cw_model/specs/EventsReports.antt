@@ -19,29 +19,17 @@ use Rattle.cw_model.specs.declared.instance.InstancePhase.TheVariants as phase
 use Rattle.cw_model.specs.declared.instance.Trace.{Trace}
 use Rattle.cw_model.specs.declared.instance.Trace.TheVariants.{Fenced, LineTooLong}
 use Rattle.cw_model.specs.State.{Cluster}
+use Rattle.cw_model.specs.Phases.{has_failed}
 use Rattle.cw_model.specs.Lookups.{row_of, seen, is_at, no_instance, connector_of, instance_of}
 use Rattle.cw_model.specs.Answers.{Answer, answered, at_worker, at_instance}
 use Rattle.cw_model.specs.Updates.{changes_instance, appends_status, next_status, stamp_of}
 
 -- an instance fails, and keeps why
-abbrev pub fail : {J : Type 0} → ℕ → Trace → Cluster J → Answer J (Unit {0})
+abbrev pub fail : ℕ → Trace → Cluster → Answer (Unit {0})
 fail i trace = at_instance i (λ s. answered tt (changes_instance i (λ instance. record instance { phase = phase.Failed; trace = Some trace }) s))
 
--- whether an instance has failed
-abbrev pub has_failed : InstancePhase → Bool
-has_failed phase.Connector = false
-has_failed phase.New = false
-has_failed phase.Inited = false
-has_failed phase.Verified = false
-has_failed phase.Polling = false
-has_failed phase.Produced = false
-has_failed phase.Offered = false
-has_failed phase.Delivered = false
-has_failed phase.Failed = true
-has_failed phase.Ended = false
-
 -- an instance fails once
-abbrev pub MayFail : {J : Type 0} → ℕ → Cluster J → Type 0
+abbrev pub MayFail : ℕ → Cluster → Type 0
 MayFail i s = has_failed (instance_of i s).phase ≡ false
 
 -- the state of an item that hasn't failed, by its connector's target state; no task is reported as stopped
@@ -61,7 +49,7 @@ trace_text (Fenced own current) = fenced_trace own current
 trace_text (LineTooLong at) = long_line_trace at
 
 -- the status of an instance at a worker
-abbrev pub status_of : {J : Type 0} → ℕ → Instance → Cluster J → StatusValue
+abbrev pub status_of : ℕ → Instance → Cluster → StatusValue
 status_of w i s = record { state = state_of (seen w s) i; trace = option_map trace_text i.trace; worker = w; round = (row_of w s).round }
 
 -- whether an instance is of an item, at a worker, and hasn't ended
@@ -69,18 +57,18 @@ abbrev pub is_item_at : ℕ → Item → Instance → Bool
 is_item_at w item i = is_at w i && same_item i.item item
 
 -- a worker's instance of an item
-abbrev pub instance_at : {J : Type 0} → ℕ → Item → Cluster J → Instance
+abbrev pub instance_at : ℕ → Item → Cluster → Instance
 instance_at w item s = unwrap_or (find (is_item_at w item) s.instances) no_instance
 
 -- an item's state counts as reported
-abbrev pub reports : {J : Type 0} → ℕ → Item → State → Cluster J → Cluster J
+abbrev pub reports : ℕ → Item → State → Cluster → Cluster
 reports w item state s = record s { instances = map (λ i. if is_item_at w item i then record i { reported = Some state } else i) s.instances }
 
 -- a worker reports an item's state
-abbrev pub put_status : {J : Type 0} → ℕ → Item → Cluster J → Answer J (Unit {0})
+abbrev pub put_status : ℕ → Item → Cluster → Answer (Unit {0})
 put_status w item = at_worker w (λ s. let status = status_of w (instance_at w item s) s in
     appends_status (record { stamp = stamp_of s; status = record { offset = next_status s; item = item; value = status } }) (reports w item status.state) tt s)
 
 -- the item runs at the worker
-abbrev pub MayReport : {J : Type 0} → ℕ → Item → Cluster J → Type 0
+abbrev pub MayReport : ℕ → Item → Cluster → Type 0
 MayReport w item s = list_any (is_item_at w item) s.instances ≡ true

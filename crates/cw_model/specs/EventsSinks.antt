@@ -20,7 +20,7 @@ abbrev pub sink_cut : (turn to : ℕ) → Instance → Cut
 sink_cut turn to i = record { turn = turn; from = position_at turn i; to = to }
 
 -- a sink has handed out the records of a topic up to an offset
-abbrev pub deliver : {J : Type 0} → ℕ → (turn to : ℕ) → Cluster J → Answer J (Unit {0})
+abbrev pub deliver : ℕ → (turn to : ℕ) → Cluster → Answer (Unit {0})
 deliver i turn to = at_instance i (λ s. answered tt (changes_instance i (taking phase.Delivered (sink_cut turn to (instance_of i s))) s))
 
 -- the topic that a sink reads
@@ -31,7 +31,7 @@ topic_in (Seq connector index) = []
 topic_in (Sink connector topic) = topic
 
 -- a sink's task polls a topic that is stable up to there
-pub record MayDeliver {J : Type 0} (i turn to : ℕ) (s : Cluster J) : Type 0 where
+pub record MayDeliver (i turn to : ℕ) (s : Cluster) : Type 0 where
   pub polling : (instance_of i s).phase ≡ phase.Polling
   pub sink : is_sink (instance_of i s) ≡ true
   pub within : turn < length (parts_of (instance_of i s))
@@ -43,11 +43,11 @@ abbrev pub sink_offset : Instance → ℕ → Entry
 sink_offset i to = Set (tag_of i).tid (tag_of i).epoch (record { part = part_at (cut_of i).turn i; to = Some to } ∷ [])
 
 -- a sink stores how far it handed out a topic, under its own epoch
-abbrev pub put_sink : {J : Type 0} → ℕ → (to : ℕ) → Cluster J → Answer J (Unit {0})
+abbrev pub put_sink : ℕ → (to : ℕ) → Cluster → Answer (Unit {0})
 put_sink i to = at_instance i (λ s. as_producer i
     (appends_entries (sink_offset (instance_of i s) to ∷ []) (changes_instance i (polling_from phase.Polling to)) tt s) s)
 
 -- a sink's task has handed out just so far
-pub record MayPutSink {J : Type 0} (i to : ℕ) (s : Cluster J) : Type 0 where
+pub record MayPutSink (i to : ℕ) (s : Cluster) : Type 0 where
   pub delivered : (instance_of i s).phase ≡ phase.Delivered
   pub as_far : to ≡ (cut_of (instance_of i s)).to

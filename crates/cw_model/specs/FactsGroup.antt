@@ -20,7 +20,7 @@ abbrev pub AreAmong : List Item → List Item → Type 0
 AreAmong items others = (x : Item) → has items x ≡ true → has others x ≡ true
 
 -- a worker is a member, which may run this claim
-pub record Claims {J : Type 0} (s : Cluster J) (w : ℕ) (claim : List Item) : Type 0 where
+pub record Claims (s : Cluster) (w : ℕ) (claim : List Item) : Type 0 where
   pub member : Member
   pub there : member_of w s.group.members ≡ Some member
   pub current : is_member w s ≡ true
@@ -40,7 +40,7 @@ pub record IsWithinPlan (items : List Item) (m : Member) : Type 0 where
   pub planned : AreAmong (m.share.kept ++ m.share.fresh) items
 
 -- a row says what the group told its worker of the round
-pub record IsAsTold {J : Type 0} (s : Cluster J) (w leader : ℕ) : Type 0 where
+pub record IsAsTold (s : Cluster) (w leader : ℕ) : Type 0 where
   pub member : Member
   pub there : member_of w s.group.members ≡ Some member
   pub lowest : lowest_in s.group.members ≡ Some leader
@@ -48,7 +48,7 @@ pub record IsAsTold {J : Type 0} (s : Cluster J) (w leader : ℕ) : Type 0 where
   pub revoked : (row_of w s).revoked ≡ (synced w s.group member).revoked
 
 -- the facts of the group, and of what the rows say of it
-pub record GroupFacts {J : Type 0} (s : Cluster J) : Type 0 where
+pub record GroupFacts (s : Cluster) : Type 0 where
   -- the members stand in order, each once, so that each has one claim
   pub rising : AreRising s.group.members
   -- claims are apart: with the next field two members hold nothing in common

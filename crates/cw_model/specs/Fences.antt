@@ -9,7 +9,7 @@ use Rattle.cw_config.specs.Records.{has_key}
 use Rattle.cw_config.specs.View.{generation_of}
 use Rattle.cw_txn.specs.declared.entry.Entry.{Entry}
 use Rattle.cw_txn.specs.declared.entry.Entry.TheVariants.{Bump, Commit, Set}
-use Rattle.cw_model.specs.Lookups.{task_connector}
+use Rattle.cw_model.specs.Lookups.{task_connector, list_end, from_place}
 
 -- a fence of a connector stands for a generation, with a mark: the generation is that of the last commit before it, and the mark is its stamp. A fence
 -- before which there is no commit, as compaction may leave one, stands for none
@@ -34,5 +34,5 @@ IsNotOlder name generation (Set tid epoch list) = ⊤
 
 -- a mark lies within the transaction list, and no entry from there on is such a commit
 pub record HoldsFrom (name : List ℕ) (generation mark : ℕ) (entries : List Entry) : Type 0 where
-  pub within : mark ≤ length entries
-  pub none_older : AllByRecursion (IsNotOlder name generation) (drop mark entries)
+  pub within : mark ≤ list_end entries
+  pub none_older : AllByRecursion (IsNotOlder name generation) (from_place mark entries)

@@ -28,12 +28,12 @@ use Rattle.cw_data.specs.declared.entry.Batch.{Batch}
 use Rattle.cw_data.specs.declared.entry.DataEntry.{DataEntry}
 use Rattle.cw_data.specs.BodyReading.{entry_at as data_at}
 use Rattle.cw_model.specs.State.{Setting, Cluster, Paired}
-use Rattle.cw_model.specs.Lookups.{joined}
+use Rattle.cw_model.specs.Lookups.{EachFrom, joined, list_end}
 use Rattle.cw_model.specs.Bodies.{config_in, configs_in, statuses_in}
 use Rattle.cw_model.specs.Fences.{StandingFence, IsNotOlder}
 use Rattle.cw_model.specs.Committed.{is_task, batches_of, is_batch_of, Agrees}
 use Rattle.cw_model.specs.ConfigsAllowed.{IsAllowedConfig}
-use Rattle.cw_model.specs.Allowed.{EachFrom, IsAllowedStatus, IsAllowedStored, IsAllowedData}
+use Rattle.cw_model.specs.Allowed.{IsAllowedStatus, IsAllowedStored, IsAllowedData}
 
 -- what the files of the five logs hold: the bodies of their frames, of a pair those of its chosen side, and that side's number
 pub record Stored : Type 0 where
@@ -154,11 +154,11 @@ HasSomeBatches log (Set tid epoch list) = ⊤
 pub record IsSafeEntry (records : List ConfigRecord) (log : List DataEntry) (before : List Entry) (entry : Entry) : Type 0 where
   pub chains : (part : PartKey) → ChainsBehind part before entry
   pub batches : HasSomeBatches log entry
-  pub fenced : (name : List ℕ) (generation mark : ℕ) → StandingFence records name generation mark → mark ≤ length before → IsNotOlder name generation entry
+  pub fenced : (name : List ℕ) (generation mark : ℕ) → StandingFence records name generation mark → mark ≤ list_end before → IsNotOlder name generation entry
 
 -- no stamp is past the end of the transaction list
 abbrev pub AreStamped : List Entry → List Applied → Type 0
-AreStamped entries records = AllByRecursion (λ a. a.stamp ≤ length entries) records
+AreStamped entries records = AllByRecursion (λ a. a.stamp ≤ list_end entries) records
 
 -- the frames of a log, as they are safe
 abbrev pub safety_of : Frames → LogName → Judgement
@@ -201,7 +201,7 @@ abbrev pub on_side_of : {A : Type 0} → Paired (List ℕ) → List A → Paired
 on_side_of chosen frames = record { frames = frames; side = chosen.side }
 
 -- the logs of a state hold just these frames, as they were spelled, and on the sides that were chosen
-pub record Holds {J : Type 0} (stored : Stored) (frames : Frames) (s : Cluster J) : Type 0 where
+pub record Holds (stored : Stored) (frames : Frames) (s : Cluster) : Type 0 where
   pub config : s.config ≡ on_side_of stored.config frames.config
   pub offsets : s.offsets ≡ on_side_of stored.offsets frames.offsets
   pub status : s.status ≡ on_side_of stored.status frames.status
@@ -209,7 +209,7 @@ pub record Holds {J : Type 0} (stored : Stored) (frames : Frames) (s : Cluster J
   pub batches : s.batches ≡ frames.batches
 
 -- a state as it is opened: its lists are what its logs are read as, there is no worker, and nothing was done yet
-pub record IsOpened {J : Type 0} (s : Cluster J) : Type 0 where
+pub record IsOpened (s : Cluster) : Type 0 where
   pub configs : s.configs ≡ configs_in s.config.frames
   pub statuses : s.statuses ≡ statuses_in s.status.frames
   pub entries : s.entries ≡ joined s.txn
@@ -223,7 +223,7 @@ pub record IsOpened {J : Type 0} (s : Cluster J) : Type 0 where
   pub closed : s.closed ≡ None
 
 -- what is stored stands for a state without workers, and for no other: each body is read, allowed at its place and safe
-pub record StandFor {J : Type 0} (stored : Stored) (s : Cluster J) : Type 0 where
+pub record StandFor (stored : Stored) (s : Cluster) : Type 0 where
   pub frames : Frames
   pub read : AreRead stored frames
   pub allowed : AreSound (allowing_of frames)
@@ -232,5 +232,5 @@ pub record StandFor {J : Type 0} (stored : Stored) (s : Cluster J) : Type 0 wher
   pub opened : IsOpened s
 
 -- a setting says of the state that was opened whether the feeds agree with it
-abbrev pub TellsWhetherFeedsAgree : {J : Type 0} → Setting → Cluster J → Type 0
+abbrev pub TellsWhetherFeedsAgree : Setting → Cluster → Type 0
 TellsWhetherFeedsAgree setting s = setting.agreed ≡ true ↔ Agrees setting.feeds s.entries s.batches

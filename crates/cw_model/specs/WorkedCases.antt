@@ -193,7 +193,7 @@ text_of (Ok x) text = text x
 text_of (Err fault) text = codes "refused"
 
 -- the same of a whole answer
-abbrev pub telling : {A : Type 0} → Answer ℕ A → (A → List ℕ) → List ℕ × Small
+abbrev pub telling : {A : Type 0} → Answer A → (A → List ℕ) → List ℕ × Small
 telling did text = (text_of did.0 text, did.1)
 
 -- one move at worker 0 or at its task, which is instance 1

@@ -40,7 +40,7 @@ pub fn config_log_without_offsets_is_full()
 
 /// A config log takes no frame with which it would be longer than it may be.
 pub fn config_log_without_room_is_full()
-    ensures { (s : Cluster ℕ) (w : ℕ) (records : List (ConfigKey × Option ConfigValue)) →
+    ensures { (s : Cluster) (w : ℕ) (records : List (ConfigKey × Option ConfigValue)) →
         s.closed ≡ None → (row_of w s).live ≡ true → (epoch_in (row_of w s).lead == last_epoch Lead s) ≡ true →
         has_room (config_length s) (frame_of (config_body (stamped records s))) ≡ false →
         append_config w records s ≡ refused (Full Config (config_length s) (frame_of (config_body (stamped records s)))) s }

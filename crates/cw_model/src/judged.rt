@@ -8,7 +8,7 @@ ghost use Rattle.cw_model.specs.Committed.{batches_of, committed_records};
 ghost use Rattle.cw_model.specs.Safe.{IsSafe, IsDisjoint, IsFenced, IsBacked};
 ghost use Rattle.cw_model.specs.FactsProducers.{HasItsBatch};
 ghost use Rattle.cw_model.specs.FactsRows.{RowFacts};
-ghost use Rattle.cw_model.specs.FactsLogs.{ConfigFacts};
+ghost use Rattle.cw_model.specs.FactsLogs.{AreShort, ConfigFacts};
 ghost use Rattle.cw_model.specs.Facts.{AreFacts};
 ghost use Rattle.cw_model.specs.StandsFor.{StandFor, IsFirstHarm};
 ghost use Rattle.cw_model.specs.Tick.{tick};
@@ -21,9 +21,9 @@ pub fn empty_cluster_is_safe()
     ensures { (setting : Setting) → IsSafe setting empty_cluster }
 {}
 
-/// It also meets the facts that keep a cluster safe.
+/// It also meets the facts that keep a cluster safe, where no feed is too long for an offset to tell its places.
 pub fn empty_cluster_meets_the_facts()
-    ensures { (setting : Setting) → AreFacts setting empty_cluster }
+    ensures { (setting : Setting) → AreShort setting.feeds → AreFacts setting empty_cluster }
 {}
 
 /// A task of an older set that commits behind a standing fence breaks what fences promise (KIP-618).

@@ -11,6 +11,7 @@ mod alterations;
 mod cases;
 mod fault;
 mod instance;
+mod journal;
 mod judged;
 mod opening;
 mod rebalances;
@@ -32,6 +33,7 @@ pub use cases::{
 };
 pub use fault::WorldFault;
 pub use instance::{Cut, Instance, InstancePhase, Trace};
+pub use journal::JournalEntry;
 pub use judged::{
     commit_without_batch_is_not_backed, committed_records_are_the_lines, created_connector_starts,
     deaf_worker_is_idle, empty_cluster_is_safe, empty_cluster_meets_the_facts,
