@@ -1,5 +1,6 @@
--- What may stand where in the logs, so that they may be opened: each record is judged by what stands before it in its log, and each transaction by the
--- transaction list (KIP-98, KIP-618). That opening judges all of it is this project's own.
+-- What may stand where in the logs, so that they may be opened: each record is judged by what stands before it in its
+-- log, and each transaction by the transaction list (KIP-98, KIP-618). That opening judges all of it is this project's
+-- own.
 use Rattle.std.specs.Prelude.{◌≡◌, ℕ, ◌≤◌, ◌<◌, Bool, true, false, List, [], ◌∷◌, ◌++◌, option_map, Option, Some, None, IsSome}
 use Rattle.std.specs.Bool.{⊤}
 use Rattle.std.specs.Option.{IsSomeAnd}
@@ -34,8 +35,8 @@ pub record IsAllowedStatus (before : List Applied) (r : Applied) : Type 0 where
 abbrev pub IsKnown : List Entry → Tag → Type 0
 IsKnown entries tag = tag.epoch.0 ≤ epoch_of tag.tid entries
 
--- a marker of a transaction that stands in its log and has no marker there yet: it says commit just where that is committed, and abort only where its
--- producer has a later epoch (KIP-98)
+-- a marker of a transaction that stands in its log and has no marker there yet: it says commit just where that is
+-- committed, and abort only where its producer has a later epoch (KIP-98)
 pub record IsAllowedMark (entries : List Entry) (there marked : List Tag) (tag : Tag) (committed : Bool) : Type 0 where
   pub known : IsKnown entries tag
   pub stands : list_any (same_tag tag) there ≡ true
@@ -89,4 +90,5 @@ pub record IsAllowedBatch (entries : List Entry) (before : List DataEntry) (batc
 abbrev pub IsAllowedData : List Entry → List DataEntry → DataEntry → Type 0
 IsAllowedData entries before (entry.Batch batch) = IsAllowedBatch entries before batch
 IsAllowedData entries before (entry.Mark tag committed) =
-    IsAllowedMark entries (filter_map (λ e. option_map (λ batch. batch.tag) (batch_in e)) before) (filter_map data_mark before) tag committed
+    IsAllowedMark entries (filter_map (λ e. option_map (λ batch. batch.tag) (batch_in e)) before)
+    (filter_map data_mark before) tag committed

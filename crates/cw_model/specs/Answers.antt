@@ -1,5 +1,5 @@
--- What an event answers, and the state behind it. Three refusals are tested before all others: writing has ended, the worker
--- that is named was killed, the instance that is named has ended. This project's own rules.
+-- What an event answers, and the state behind it. Three refusals are tested before all others: writing has ended, the
+-- worker that is named was killed, the instance that is named has ended. This project's own rules.
 use Rattle.std.specs.Prelude.{ℕ, Option, Some, None, Result, Ok, Err, if◌then◌else◌}
 use Rattle.cw_types.specs.declared.logs.DiskName.{DiskName}
 use Rattle.cw_group.specs.declared.answers.GroupFault.{GroupFault}

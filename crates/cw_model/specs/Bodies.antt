@@ -1,5 +1,5 @@
--- How records are written and read, how many bytes each log has, and when it is full: a log has at most 2^28 bytes, and each frame is its
--- body and five bytes more. This project's own format.
+-- How records are written and read, how many bytes each log has, and when it is full: a log has at most 2^28 bytes,
+-- and each frame is its body and five bytes more. This project's own format.
 use Rattle.std.specs.Prelude.{ℕ, ◌+◌, ◌^◌, Bool, List, Option, Some, None, Result, Ok, Err, map, length, nat_le, option_map, option_and_then}
 use Rattle.std.specs.List.{filter_map}
 use Rattle.cw_types.specs.declared.ids.Item.{Item}
@@ -21,7 +21,12 @@ use Rattle.cw_model.specs.Lookups.{joined}
 
 -- a record of the config log as it is written
 abbrev pub config_applied : ConfigRecord → Applied
-config_applied r = record { offset = r.offset; stamp = r.stamp; key = config_key_text r.key; value = option_map config_text r.value }
+config_applied r = record {
+  offset = r.offset;
+  stamp = r.stamp;
+  key = config_key_text r.key;
+  value = option_map config_text r.value;
+}
 
 -- a body of the config log
 abbrev pub config_body : List ConfigRecord → List ℕ
@@ -29,13 +34,19 @@ config_body records = records_bytes (map config_applied records)
 
 -- a record of the status log as it is written
 abbrev pub status_applied : StampedStatus → Applied
-status_applied r = record { offset = r.status.offset; stamp = r.stamp; key = status_key r.status.item; value = Some (status_text r.status.value) }
+status_applied r = record {
+  offset = r.status.offset;
+  stamp = r.stamp;
+  key = status_key r.status.item;
+  value = Some (status_text r.status.value);
+}
 
 -- a body of the status log
 abbrev pub status_body : List StampedStatus → List ℕ
 status_body records = records_bytes (map status_applied records)
 
--- the record of the config log that fields are, where key and value are in its grammar; they may be spelled otherwise than they are written
+-- the record of the config log that fields are, where key and value are in its grammar; they may be spelled otherwise
+-- than they are written
 abbrev pub config_in : Applied → Option ConfigRecord
 config_in a = record_of a.offset a.stamp a.key a.value
 
@@ -45,7 +56,10 @@ configs_in frames = filter_map config_in (joined frames)
 
 -- the status of a key and a value that were read
 abbrev pub status_with : Applied → Result (Item × StatusValue) KeyFault → Option StampedStatus
-status_with a (Ok read) = Some (record { stamp = a.stamp; status = record { offset = a.offset; item = read.0; value = read.1 } })
+status_with a (Ok read) = Some (record {
+  stamp = a.stamp;
+  status = record { offset = a.offset; item = read.0; value = read.1 };
+})
 status_with a (Err fault) = None
 
 -- the record of the status log that fields are

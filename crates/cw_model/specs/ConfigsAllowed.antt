@@ -1,5 +1,6 @@
--- Which records may stand behind others in the config log (Connect's config topic): a config is one that its class takes, tasks are
--- committed once each of them has a config and no two share a part, and a stopped connector has no tasks (KIP-875).
+-- Which records may stand behind others in the config log (Connect's config topic): a config is one that its class
+-- takes, tasks are committed once each of them has a config and no two share a part, and a stopped connector has no
+-- tasks (KIP-875).
 use Rattle.std.specs.Prelude.{◌≡◌, ℕ, ◌<◌, ◌≤◌, Bool, true, false, List, [], ◌∷◌, ◌++◌, Option, Some, IsSome, unwrap_or}
 use Rattle.std.specs.Bool.{⊤}
 use Rattle.cw_keys.specs.ConfigKeys.{IsConfigKey}
@@ -20,7 +21,8 @@ use Rattle.cw_model.specs.Lookups.{EachFrom}
 
 -- the parts of a task whose config waits for its commit
 abbrev pub waiting_parts : List ConfigRecord → List ℕ → ℕ → List PartKey
-waiting_parts before name index = parts_at name (unwrap_or (deferred_of (record { connector = name; index = index }) before) [])
+waiting_parts before name index =
+    parts_at name (unwrap_or (deferred_of (record { connector = name; index = index }) before) [])
 
 -- a commit of so many tasks: each has a config, no two share a part, and a stopped connector has none
 pub record FitsCommit (before : List ConfigRecord) (name : List ℕ) (count : ℕ) : Type 0 where

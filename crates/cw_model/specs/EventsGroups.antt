@@ -1,4 +1,5 @@
--- A round of the group (KIP-415): its members join with what they hold, the leader closes it and plans, and each is told its share.
+-- A round of the group (KIP-415): its members join with what they hold, the leader closes it and plans, and each is
+-- told its share.
 use Rattle.std.specs.Prelude.{◌≡◌, ℕ, ◌==◌, Bool, true, false, List, [], length, nat_le, Some, None, if◌then◌else◌}
 use Rattle.std.specs.Option.{option_map_or}
 use Rattle.cw_types.specs.declared.ids.Item.{Item}
@@ -26,12 +27,18 @@ incarnation_in w group = option_map_or (λ m. m.incarnation) (member_of w group.
 
 -- a worker that has joined with what it holds
 abbrev pub joining : (incarnation : ℕ) → List Item → Row → Row
-joining incarnation items row = record row { incarnation = Some incarnation; phase = Joining; assigned = items; revoked = [] }
+joining incarnation items row = record row {
+  incarnation = Some incarnation;
+  phase = Joining;
+  assigned = items;
+  revoked = [];
+}
 
 -- a worker joins, and may run what it holds: the answer is the round
 abbrev pub join : ℕ → Cluster → Answer ℕ
 join w = at_worker w (λ s. at_group (join_row w (incarnation_in w (entered w s)) (held w s) (entered w s))
-    (λ did. answered did.0 (changes_row w (joining (incarnation_in w did.1) (held w s)) (record s { group = did.1 }))) s)
+    (λ did. answered did.0 (changes_row w (joining (incarnation_in w did.1) (held w s))
+    (record s { group = did.1 }))) s)
 
 -- a worker that enters holds nothing
 abbrev pub MayJoin : ℕ → Cluster → Type 0
@@ -39,7 +46,8 @@ MayJoin w s = is_member w s ≡ false → held w s ≡ []
 
 -- all have joined, and nobody joins this round any more
 abbrev pub close_round : ℕ → Cluster → Answer (Unit {0})
-close_round w = at_worker w (λ s. at_group (close_row w s.group.round s.group) (λ group. answered tt (record s { group = group })) s)
+close_round w = at_worker w (λ s. at_group (close_row w s.group.round s.group)
+    (λ group. answered tt (record s { group = group })) s)
 
 -- whether a delay has run out
 abbrev pub is_due : (moment : ℕ) → Delay → Bool
@@ -81,4 +89,5 @@ stable_with w told row = record row {
 
 -- a worker is told its share
 abbrev pub sync : ℕ → Cluster → Answer (Unit {0})
-sync w = at_worker w (λ s. at_group (sync_row w s.group.round s.group) (λ told. answered tt (changes_row w (stable_with w told) s)) s)
+sync w = at_worker w (λ s. at_group (sync_row w s.group.round s.group)
+    (λ told. answered tt (changes_row w (stable_with w told) s)) s)

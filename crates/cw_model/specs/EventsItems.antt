@@ -1,5 +1,5 @@
--- A worker reads the config log, starts and stops what it is assigned, and restarts it when a user asks for that (Connect's herder
--- and REST API). That each start makes an instance with a number of its own is this project's own.
+-- A worker reads the config log, starts and stops what it is assigned, and restarts it when a user asks for that
+-- (Connect's herder and REST API). That each start makes an instance with a number of its own is this project's own.
 use Rattle.std.specs.Prelude.{◌≡◌, ℕ, ◌&&◌, not, Bool, true, false, List, [], ◌∷◌, ◌++◌, length, Option, None, unwrap_or, option_and_then}
 use Rattle.cw_types.specs.declared.ids.TaskId.{TaskId}
 use Rattle.cw_types.specs.declared.ids.Item.{Item}
@@ -58,7 +58,8 @@ new_instance w records (Task id) = record {
 
 -- a worker starts an item: the answer is the instance's number
 abbrev pub start_item : ℕ → Item → Cluster → Answer ℕ
-start_item w item = at_worker w (λ s. answered (length s.instances) (record s { instances = s.instances ++ new_instance w (seen w s) item ∷ [] }))
+start_item w item = at_worker w (λ s. answered (length s.instances)
+    (record s { instances = s.instances ++ new_instance w (seen w s) item ∷ [] }))
 
 -- it is assigned and configured, and doesn't run there
 pub record MayStart (w : ℕ) (item : Item) (s : Cluster) : Type 0 where

@@ -1,11 +1,13 @@
--- What the leader writes, each under its lead epoch: configs, the bumps that fence the producers of older tasks, the record that
--- says that they are fenced (KIP-618), and offsets that a user sets or resets (KIP-875).
+-- What the leader writes, each under its lead epoch: configs, the bumps that fence the producers of older tasks, the
+-- record that says that they are fenced (KIP-618), and offsets that a user sets or resets (KIP-875).
 use Rattle.std.specs.Prelude.{◌≡◌, ℕ, ◌+◌, ◌<◌, ◌≤◌, ◌^◌, length, ◌==◌, ◌&&◌, Bool, true, false, List, [], ◌∷◌, ◌++◌, map, All, Option, Some, None, IsSome, unwrap_or, bytes_eq, if◌then◌else◌}
 use Rattle.std.specs.List.{range_with_len, IsDistinct}
 use Rattle.cw_types.specs.declared.ids.Epoch.{Epoch}
 use Rattle.cw_types.specs.declared.ids.Tid.{Tid}
 use Rattle.cw_types.specs.declared.ids.Tid.TheVariants.{Lead, Task}
 use Rattle.cw_keys.specs.declared.config_key.ConfigKey.TheVariants as key
+use Rattle.cw_keys.specs.declared.config_key.ConfigKey.{ConfigKey}
+use Rattle.cw_keys.specs.declared.config_value.ConfigValue.{ConfigValue}
 use Rattle.cw_keys.specs.declared.config_value.ConfigValue.TheVariants as value
 use Rattle.cw_keys.specs.declared.target.Target.TheVariants.{Stopped}
 use Rattle.cw_config.specs.View.{generation_of, task_count_of, fenced_count_of, is_pending, target_of}
@@ -45,7 +47,8 @@ MayClaim w s = leads w (row_of w s).phase ≡ true
 
 -- the leader writes records to the config log: the answer is the offset of the first
 abbrev pub append_config : ℕ → KeyedValues → Cluster → Answer ℕ
-append_config w records = at_worker w (λ s. as_leader w (appends_configs (stamped records s) (λ t. t) (next_config s) s) s)
+append_config w records = at_worker w (λ s.
+    as_leader w (appends_configs (stamped records s) (λ t. t) (next_config s) s) s)
 
 -- 1 to 2^32 - 1 records, each allowed behind those before it, and none a fence
 pub record MayAppendConfig (w : ℕ) (records : KeyedValues) (s : Cluster) : Type 0 where
@@ -67,7 +70,8 @@ new_fencing w name s = record {
 -- the fencing that a leader goes on with: its own, where that is of this connector and generation
 abbrev pub going_on : Fencing → Option Fencing → Fencing
 going_on begun None = begun
-going_on begun (Some own) = if bytes_eq own.connector begun.connector && (own.generation == begun.generation) then own else begun
+going_on begun (Some own) =
+    if bytes_eq own.connector begun.connector && (own.generation == begun.generation) then own else begun
 
 -- how far a leader has fenced a connector's older tasks
 abbrev pub fencing_of : ℕ → List ℕ → Cluster → Fencing
@@ -84,7 +88,8 @@ fencing_on fencing row = record row { fencing = Some (record fencing { next = fe
 -- the leader fences one producer: the answer is the task's index and the new epoch
 abbrev pub fence_one : ℕ → List ℕ → Cluster → Answer (ℕ × Epoch)
 fence_one w name = at_worker w (λ s. let fencing = fencing_of w name s in
-    as_leader w (bumps (fenced_tid fencing) (changes_row w (fencing_on fencing)) (fencing.next, next_epoch (fenced_tid fencing) s) s) s)
+    as_leader w (bumps (fenced_tid fencing) (changes_row w (fencing_on fencing))
+    (fencing.next, next_epoch (fenced_tid fencing) s) s) s)
 
 -- the leader's connector is pending as it has read, and a producer isn't fenced yet
 pub record MayFence (w : ℕ) (name : List ℕ) (s : Cluster) : Type 0 where
@@ -100,11 +105,14 @@ fence_record name count = (key.Fencing name, Some (value.Fencing count)) ∷ []
 abbrev pub without_fencing : Row → Row
 without_fencing row = record row { fencing = None }
 
--- the leader writes that the older tasks are fenced, unless a newer set was committed: the answer is the record's offset
+-- the leader writes that the older tasks are fenced, unless a newer set was committed: the answer is the record's
+-- offset
 abbrev pub append_fence : ℕ → List ℕ → Cluster → Answer ℕ
-append_fence w name = at_worker w (λ s. let own = (fencing_of w name s).generation in let newest = unwrap_or (generation_of name s.configs) 0 in
+append_fence w name = at_worker w (λ s. let own = (fencing_of w name s).generation in
+    let newest = unwrap_or (generation_of name s.configs) 0 in
     as_leader w (if own == newest
-    then appends_configs (stamped (fence_record name (task_count_of name (seen w s))) s) (changes_row w without_fencing) (next_config s) s
+    then appends_configs (stamped (fence_record name (task_count_of name (seen w s))) s)
+    (changes_row w without_fencing) (next_config s) s
     else refused (StaleGeneration own newest) s) s)
 
 -- the leader's connector is pending as it has read, and all producers are fenced

@@ -1,5 +1,5 @@
--- The leader marks how transactions ended, in the log that holds their records (KIP-98, control records). That each log is marked by
--- its own event, in the order of the log, is this project's own.
+-- The leader marks how transactions ended, in the log that holds their records (KIP-98, control records). That each
+-- log is marked by its own event, in the order of the log, is this project's own.
 use Rattle.std.specs.Prelude.{◌&&◌, Bool, not, List, Option, None, IsSome, unwrap_or}
 use Rattle.std.specs.List.{find, filter_map, list_any}
 use Rattle.cw_types.specs.declared.ids.Tag.{Tag}
@@ -22,7 +22,8 @@ use Rattle.cw_model.specs.Updates.{appends_offset, appends_data}
 
 -- the first transaction of the offset log that has ended and has no marker there
 abbrev pub first_unmarked_offset : (Tag → Verdict) → List OffsetEntry → Option Tag
-first_unmarked_offset verdict entries = find (λ tag. not (is_marked tag entries) && has_ended (verdict tag)) (filter_map offset_tag entries)
+first_unmarked_offset verdict entries = find (λ tag. not (is_marked tag entries) && has_ended (verdict tag))
+    (filter_map offset_tag entries)
 
 -- the transaction that a log is to mark next
 abbrev pub unmarked_in : LogName → Cluster → Option Tag
@@ -39,7 +40,8 @@ no_tag = record { number = 0; epoch = record { 0 = 0 }; tid = Lead }
 -- a log gets the marker of a transaction; those of configs, statuses and transactions have none
 abbrev pub marks : LogName → Tag → Bool → Cluster → Answer (Tag × Bool)
 marks Config tag committed s = answered (tag, committed) s
-marks Offsets tag committed s = appends_offset (Mark (record { tag = tag; committed = committed })) (λ t. t) (tag, committed) s
+marks Offsets tag committed s = appends_offset (Mark (record { tag = tag; committed = committed })) (λ t. t)
+    (tag, committed) s
 marks Status tag committed s = answered (tag, committed) s
 marks Txn tag committed s = answered (tag, committed) s
 marks Batches tag committed s = appends_data (DataMark tag committed) (λ t. t) (tag, committed) s

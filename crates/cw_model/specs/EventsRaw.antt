@@ -1,5 +1,5 @@
--- Producers of a script: they bump their epochs and commit spans of parts that no connector has, judged by their epoch alone
--- (KIP-98). Such producers and parts are this project's own.
+-- Producers of a script: they bump their epochs and commit spans of parts that no connector has, judged by their epoch
+-- alone (KIP-98). Such producers and parts are this project's own.
 use Rattle.std.specs.Prelude.{ℕ, ◌≤◌, ◌<◌, ◌^◌, ◌==◌, Bool, All, List, [], ◌∷◌, map, length, nat_le, Option, Some, None}
 use Rattle.std.specs.List.{find, IsDistinct}
 use Rattle.cw_types.specs.declared.ids.Epoch.{Epoch}
@@ -37,11 +37,13 @@ unless_bad (Some span) done s = refused (BadCut span.from span.to) s
 
 -- a transaction of a script's producer, numbered by its place in the list
 abbrev pub raw_commit_of : ℕ → Epoch → List Span → List Entry → Entry
-raw_commit_of n epoch spans entries = Commit (record { number = list_end entries; epoch = epoch; tid = RawTid n }) 0 spans
+raw_commit_of n epoch spans entries =
+    Commit (record { number = list_end entries; epoch = epoch; tid = RawTid n }) 0 spans
 
 -- a script's producer commits parts up to new ends: the answer is the spans
 abbrev pub raw_commit : ℕ → Epoch → List (ℕ × ℕ) → Cluster → Answer (List Span)
-raw_commit n epoch list = at_open (λ s. let spans = map (raw_span s.entries) list in let last = last_epoch (RawTid n) s in
+raw_commit n epoch list = at_open (λ s. let spans = map (raw_span s.entries) list in
+    let last = last_epoch (RawTid n) s in
     unless_fenced epoch.0 last (unless_bad (find is_bad_span spans)
     (appends_entries (raw_commit_of n epoch spans s.entries ∷ []) (λ t. t) spans s) s)
     (refused (Fenced epoch.0 last) s))

@@ -1,5 +1,5 @@
--- A task fails, and states are reported to the status log (Connect's status topic, KIP-875 for STOPPED). Which states are
--- reported, and the texts of failures, are this project's own.
+-- A task fails, and states are reported to the status log (Connect's status topic, KIP-875 for STOPPED). Which states
+-- are reported, and the texts of failures, are this project's own.
 use Rattle.std.specs.Prelude.{◌≡◌, ℕ, ◌&&◌, Bool, true, false, List, map, Some, unwrap_or, option_map, if◌then◌else◌}
 use Rattle.std.specs.List.{find, list_any}
 use Rattle.cw_types.specs.declared.ids.Item.{Item}
@@ -18,7 +18,7 @@ use Rattle.cw_model.specs.declared.instance.InstancePhase.{InstancePhase}
 use Rattle.cw_model.specs.declared.instance.InstancePhase.TheVariants as phase
 use Rattle.cw_model.specs.declared.instance.Trace.{Trace}
 use Rattle.cw_model.specs.declared.instance.Trace.TheVariants.{Fenced, LineTooLong}
-use Rattle.cw_model.specs.State.{Cluster}
+use Rattle.cw_model.specs.State.{Cluster, StampedStatus}
 use Rattle.cw_model.specs.Phases.{has_failed}
 use Rattle.cw_model.specs.Lookups.{row_of, seen, is_at, no_instance, connector_of, instance_of}
 use Rattle.cw_model.specs.Answers.{Answer, answered, at_worker, at_instance}
@@ -26,7 +26,8 @@ use Rattle.cw_model.specs.Updates.{changes_instance, appends_status, next_status
 
 -- an instance fails, and keeps why
 abbrev pub fail : ℕ → Trace → Cluster → Answer (Unit {0})
-fail i trace = at_instance i (λ s. answered tt (changes_instance i (λ instance. record instance { phase = phase.Failed; trace = Some trace }) s))
+fail i trace = at_instance i (λ s. answered tt (changes_instance i
+    (λ instance. record instance { phase = phase.Failed; trace = Some trace }) s))
 
 -- an instance fails once
 abbrev pub MayFail : ℕ → Cluster → Type 0
@@ -41,7 +42,8 @@ aimed_state (Task id) Stopped = state.Running
 
 -- the state of an instance, as its worker has read the target state
 abbrev pub state_of : List ConfigRecord → Instance → State
-state_of records i = if has_failed i.phase then state.Failed else aimed_state i.item (target_of (connector_of i.item) records)
+state_of records i =
+    if has_failed i.phase then state.Failed else aimed_state i.item (target_of (connector_of i.item) records)
 
 -- why an instance failed, as its status tells it
 abbrev pub trace_text : Trace → List ℕ
@@ -50,7 +52,12 @@ trace_text (LineTooLong at) = long_line_trace at
 
 -- the status of an instance at a worker
 abbrev pub status_of : ℕ → Instance → Cluster → StatusValue
-status_of w i s = record { state = state_of (seen w s) i; trace = option_map trace_text i.trace; worker = w; round = (row_of w s).round }
+status_of w i s = record {
+  state = state_of (seen w s) i;
+  trace = option_map trace_text i.trace;
+  worker = w;
+  round = (row_of w s).round;
+}
 
 -- whether an instance is of an item, at a worker, and hasn't ended
 abbrev pub is_item_at : ℕ → Item → Instance → Bool
@@ -62,12 +69,19 @@ instance_at w item s = unwrap_or (find (is_item_at w item) s.instances) no_insta
 
 -- an item's state counts as reported
 abbrev pub reports : ℕ → Item → State → Cluster → Cluster
-reports w item state s = record s { instances = map (λ i. if is_item_at w item i then record i { reported = Some state } else i) s.instances }
+reports w item state s = record s {
+  instances = map (λ i. if is_item_at w item i then record i { reported = Some state } else i) s.instances;
+}
+
+-- the record of an item's status
+abbrev pub status_record : Item → StatusValue → Cluster → StampedStatus
+status_record item status s =
+    record { stamp = stamp_of s; status = record { offset = next_status s; item = item; value = status } }
 
 -- a worker reports an item's state
 abbrev pub put_status : ℕ → Item → Cluster → Answer (Unit {0})
 put_status w item = at_worker w (λ s. let status = status_of w (instance_at w item s) s in
-    appends_status (record { stamp = stamp_of s; status = record { offset = next_status s; item = item; value = status } }) (reports w item status.state) tt s)
+    appends_status (status_record item status s) (reports w item status.state) tt s)
 
 -- the item runs at the worker
 abbrev pub MayReport : ℕ → Item → Cluster → Type 0

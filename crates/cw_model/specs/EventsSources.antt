@@ -1,5 +1,5 @@
--- The steps of a source task (KIP-618): it gets an epoch of its own, then checks that its generation is the newest and fenced, then
--- takes its positions, and then writes records and offsets in one transaction after the other.
+-- The steps of a source task (KIP-618): it gets an epoch of its own, then checks that its generation is the newest and
+-- fenced, then takes its positions, and then writes records and offsets in one transaction after the other.
 use Rattle.std.specs.Prelude.{◌≡◌, ℕ, ◌<◌, ◌-◌, ◌==◌, Bool, true, not, List, [], ◌∷◌, map, length, nat_lt, nat_le, slice_index, Some, unwrap_or, if◌then◌else◌}
 use Rattle.cw_types.specs.declared.ids.Epoch.{Epoch}
 use Rattle.cw_types.specs.declared.ids.PartKey.{PartKey}
@@ -47,7 +47,9 @@ MayInit i s = IsIn phase.New i s
 -- whether a task isn't one of its connector's newest set, at the config log's end
 abbrev pub is_stale : Instance → Cluster → Bool
 is_stale i s = let id = task_id_of i.item in
-    if i.generation == unwrap_or (generation_of id.connector s.configs) 0 then not (nat_lt id.index (task_count_of id.connector s.configs)) else true
+    if i.generation == unwrap_or (generation_of id.connector s.configs) 0
+    then not (nat_lt id.index (task_count_of id.connector s.configs))
+    else true
 
 -- a task with an epoch goes on where its set is the newest, and all older ones are fenced: the answer is its generation
 abbrev pub verify : ℕ → Cluster → Answer ℕ
@@ -102,7 +104,8 @@ batch_of feeds i cut = Batch (record {
 abbrev pub produce : Setting → ℕ → Cut → Cluster → Answer (Unit {0})
 produce setting i cut = at_instance i (λ s. as_producer i
     (if is_bad_cut setting.feeds (instance_of i s) cut then refused (BadCut cut.from cut.to) s else
-    appends_data (batch_of setting.feeds (instance_of i s) cut) (changes_instance i (taking phase.Produced cut)) tt s) s)
+    appends_data (batch_of setting.feeds (instance_of i s) cut)
+    (changes_instance i (taking phase.Produced cut)) tt s) s)
 
 -- a source's task polls one of its parts
 pub record MayProduce (i : ℕ) (cut : Cut) (s : Cluster) : Type 0 where
@@ -112,12 +115,18 @@ pub record MayProduce (i : ℕ) (cut : Cut) (s : Cluster) : Type 0 where
 
 -- the record of the offset behind what a task took last
 abbrev pub offset_record : Span → Cluster → Applied
-offset_record span s = record { offset = next_offset s; stamp = stamp_of s; key = part_text span.part; value = Some (offset_text span.part span.to) }
+offset_record span s = record {
+  offset = next_offset s;
+  stamp = stamp_of s;
+  key = part_text span.part;
+  value = Some (offset_text span.part span.to);
+}
 
 -- a task writes the offset behind these records, in the same transaction
 abbrev pub put_offsets : ℕ → Cluster → Answer (Unit {0})
 put_offsets i = at_instance i (λ s. let own = instance_of i s in as_producer i
-    (appends_offset (Records (tag_of own) (offset_record (span_of own) s ∷ [])) (changes_instance i (in_phase phase.Offered)) tt s) s)
+    (appends_offset (Records (tag_of own) (offset_record (span_of own) s ∷ []))
+    (changes_instance i (in_phase phase.Offered)) tt s) s)
 
 -- its records stand in the data log
 abbrev pub MayPutOffsets : ℕ → Cluster → Type 0
@@ -130,7 +139,8 @@ committed_to position i = record (polling_from phase.Polling position i) { numbe
 -- a task commits records and offset: the answer is the span
 abbrev pub commit : ℕ → Cluster → Answer Span
 commit i = at_instance i (λ s. let own = instance_of i s in as_producer i
-    (appends_entries (Commit (tag_of own) own.generation (span_of own ∷ []) ∷ []) (changes_instance i (committed_to (cut_of own).to)) (span_of own) s) s)
+    (appends_entries (Commit (tag_of own) own.generation (span_of own ∷ []) ∷ [])
+    (changes_instance i (committed_to (cut_of own).to)) (span_of own) s) s)
 
 -- its records and their offset stand in their logs
 abbrev pub MayCommit : ℕ → Cluster → Type 0

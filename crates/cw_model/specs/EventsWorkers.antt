@@ -1,5 +1,6 @@
--- Workers come, are killed, turn deaf and hear again; and the group lets a lost member go, whose items wait for it through the
--- scheduled delay (KIP-415). The clock, that a worker may be deaf, and how many there are at most, is this project's own.
+-- Workers come, are killed, turn deaf and hear again; and the group lets a lost member go, whose items wait for it
+-- through the scheduled delay (KIP-415). The clock, that a worker may be deaf, and how many there are at most, is this
+-- project's own.
 use Rattle.std.specs.Prelude.{ℕ, ◌+◌, ◌-◌, ◌^◌, List, [], ◌∷◌, ◌++◌, length, min, max, true, false, nat_lt, if◌then◌else◌}
 use Rattle.cw_types.specs.declared.ids.Item.{Item}
 use Rattle.cw_assign.specs.declared.delay.Delay.{Delay}
@@ -46,12 +47,17 @@ delay_behind delay moment (x ∷ lost) (Until at) = Until at
 
 -- a member has departed: what it might run is lost
 abbrev pub loses : Setting → List Item × GroupState → Cluster → Cluster
-loses setting gone s = record s { group = gone.1; lost = s.lost ++ gone.0; delay = delay_behind setting.delay s.moment gone.0 s.delay }
+loses setting gone s = record s {
+  group = gone.1;
+  lost = s.lost ++ gone.0;
+  delay = delay_behind setting.delay s.moment gone.0 s.delay;
+}
 
 -- the group lets a member go
 abbrev pub expire : Setting → ℕ → Cluster → Answer (Unit {0})
 expire setting w = at_open (λ s. at_group (expire_row w s.group) (λ gone. answered tt (loses setting gone s)) s)
 
--- the clock is set to a time in milliseconds, and never back: the answer is the moment then. It is no event, and moves in a closed cluster too
+-- the clock is set to a time in milliseconds, and never back: the answer is the moment then. It is no event, and moves
+-- in a closed cluster too
 abbrev pub clock : ℕ → Cluster → Answer ℕ
 clock to s = answered (max s.moment to) (record s { moment = max s.moment to })

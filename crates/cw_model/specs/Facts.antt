@@ -1,6 +1,6 @@
--- All that is known of a state that keeps it safe whatever happens next: it is safe, and the facts of the group, of the logs,
--- of rows and instances, and of producers hold, and the journal is true. An opened state has them, and each event keeps them.
--- They are this project's own.
+-- All that is known of a state that keeps it safe whatever happens next: it is safe, and the facts of the group, of
+-- the logs, of rows and instances, and of producers hold, and the journal is true. An opened state has them, and each
+-- event keeps them. They are this project's own.
 use Rattle.cw_model.specs.State.{Cluster, Setting}
 use Rattle.cw_model.specs.Safe.{IsSafe}
 use Rattle.cw_model.specs.FactsGroup.{GroupFacts}

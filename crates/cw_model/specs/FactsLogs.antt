@@ -1,5 +1,5 @@
--- The facts of the logs: what stands where it may (KIP-98, KIP-618), and that a log which was compacted still says what its whole list says, as Kafka's
--- compacted topics do. They are this project's own.
+-- The facts of the logs: what stands where it may (KIP-98, KIP-618), and that a log which was compacted still says
+-- what its whole list says, as Kafka's compacted topics do. They are this project's own.
 use Rattle.std.specs.Prelude.{◌≡◌, ℕ, ◌<◌, ◌≤◌, ◌^◌, true, List, [], length, map, Contains, IsSome}
 use Rattle.std.specs.List.{AllByRecursion}
 use Rattle.cw_types.specs.declared.ids.TaskId.{TaskId}
@@ -49,18 +49,23 @@ pub record SaysTheSame (standing whole : List ConfigRecord) : Type 0 where
 
 -- a list of configs, and what stands of it
 pub record ConfigFacts (standing whole : List ConfigRecord) (entries : List Entry) : Type 0 where
-  -- each record is allowed behind those before it: `verify` needs it, since a fence has its commit's count and committed tasks share no part, and so does
-  -- `set_offsets`, since a stopped connector has no tasks
+  -- each record is allowed behind those before it: `verify` needs it, since a fence has its commit's count and
+  -- committed tasks share no part, and so does `set_offsets`, since a stopped connector has no tasks
   pub allowed : AreAllowedConfigs [] whole
-  -- no record was written when the transaction list was longer than it is: `append_fence` keeps it, and a fence's mark lies within the list by it
+  -- no record was written when the transaction list was longer than it is: `append_fence` keeps it, and a fence's mark
+  -- lies within the list by it
   pub stamped : AllByRecursion (λ r. r.stamp ≤ list_end entries) whole
-  -- what stands says what the whole list says: `compact` drops nothing that is looked up, and an appended record is then allowed behind what stands, too
+  -- what stands says what the whole list says: `compact` drops nothing that is looked up, and an appended record is
+  -- then allowed behind what stands, too
   pub same : SaysTheSame standing whole
-  -- what stands was written, and each record is allowed behind those before it: a reopening needs it, and `compact` keeps it
+  -- what stands was written, and each record is allowed behind those before it: a reopening needs it, and `compact`
+  -- keeps it
   pub among : AllByRecursion (Contains whole) standing
   pub standing_allowed : AreAllowedConfigs [] standing
-  -- a fence that stands with a commit before it stands for that one in the whole list, too: a reopening needs it, since `compact` may drop the commit
-  pub fences : (name : List ℕ) (generation mark : ℕ) → StandingFence standing name generation mark → StandingFence whole name generation mark
+  -- a fence that stands with a commit before it stands for that one in the whole list, too: a reopening needs it,
+  -- since `compact` may drop the commit
+  pub fences : (name : List ℕ) (generation mark : ℕ) → StandingFence standing name generation mark →
+      StandingFence whole name generation mark
 
 -- ---- the status log
 
@@ -83,7 +88,8 @@ pub record StatusFacts (standing whole : List StampedStatus) : Type 0 where
 
 -- the batches of tasks agree: what is committed of them is what the feeds yield
 abbrev pub TasksAgree : Files → List Entry → List DataEntry → Type 0
-TasksAgree feeds entries log = AllByRecursion (λ batch. is_task batch.tag.tid ≡ true → BatchAgrees feeds entries batch) (batches_of log)
+TasksAgree feeds entries log =
+    AllByRecursion (λ batch. is_task batch.tag.tid ≡ true → BatchAgrees feeds entries batch) (batches_of log)
 
 -- ---- all logs
 
@@ -115,21 +121,26 @@ pub record LogFacts (setting : Setting) (s : Cluster) : Type 0 where
   pub statuses_read : AllByRecursion (λ a. IsSome (status_in a)) (joined s.status.frames)
   pub configs : ConfigFacts (standing_configs s) s.configs s.entries
   pub statuses : StatusFacts (standing_statuses s) s.statuses
-  -- each entry is allowed behind those before it: `raw_commit` needs it, since a script's producer numbers its transactions by their places
+  -- each entry is allowed behind those before it: `raw_commit` needs it, since a script's producer numbers its
+  -- transactions by their places
   pub entries : AreAllowed s.entries
-  -- the transaction log is never compacted: what stands in it is the whole list, so that a log with room has a list that is short enough for `commit`
+  -- the transaction log is never compacted: what stands in it is the whole list, so that a log with room has a list
+  -- that is short enough for `commit`
   pub all_entries : joined s.txn ≡ s.entries
-  -- each entry of the offset log is allowed behind those before it, by the whole transaction list: what was said of a transaction stays true as the list
-  -- grows, since one that was aborted is never committed. The records of a transaction stand before its marker, so that `compact` leaves none behind it
+  -- each entry of the offset log is allowed behind those before it, by the whole transaction list: what was said of a
+  -- transaction stays true as the list grows, since one that was aborted is never committed. The records of a
+  -- transaction stand before its marker, so that `compact` leaves none behind it
   pub offsets : EachFrom (IsAllowedStored s.entries) [] s.offsets.frames
-  -- each batch and marker is allowed behind those before it, by the whole transaction list: `init` needs it, so that no batch has the epoch that it gets,
-  -- and a marker stays true, since what was aborted is never committed
+  -- each batch and marker is allowed behind those before it, by the whole transaction list: `init` needs it, so that
+  -- no batch has the epoch that it gets, and a marker stays true, since what was aborted is never committed
   pub batches : EachFrom (IsAllowedData s.entries) [] s.batches
-  -- where the feeds agreed when the logs were opened, the tasks' batches agree: `commit` keeps it. Of a script's producer a batch that was there when the
-  -- logs were opened may be committed by `raw_commit`, whatever it holds, and no task's records have it
+  -- where the feeds agreed when the logs were opened, the tasks' batches agree: `commit` keeps it. Of a script's
+  -- producer a batch that was there when the logs were opened may be committed by `raw_commit`, whatever it holds, and
+  -- no task's records have it
   pub agree : setting.agreed ≡ true → TasksAgree setting.feeds s.entries s.batches
-  -- what is written has numbers that fit: `append_config` and `put_status` need it, whose stamps are the list's end, `put_offsets`, whose record tells a
-  -- place in a feed, and `put_sink`, whose offset is a number of records. A reopening needs it, which reads what is written
+  -- what is written has numbers that fit: `append_config` and `put_status` need it, whose stamps are the list's end,
+  -- `put_offsets`, whose record tells a place in a feed, and `put_sink`, whose offset is a number of records. A
+  -- reopening needs it, which reads what is written
   pub short : AreShort setting.feeds
   pub disks : FitDisks s
   pub written : AreWritten s

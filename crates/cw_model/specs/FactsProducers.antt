@@ -1,6 +1,7 @@
--- The facts of producers by which each commits what goes on from what is committed, once, whatever happens next: what an instance is like that isn't
--- fenced, and which transactions it may still write (KIP-618, KIP-98). They are this project's own.
-use Rattle.std.specs.Prelude.{◌≡◌, ◌≢◌, ℕ, ◌<◌, ◌≤◌, ◌+◌, ◌&&◌, Bool, true, false, not, List, [], ◌∷◌, ◌++◌, length, map, Option, Some, None, slice_get}
+-- The facts of producers by which each commits what goes on from what is committed, once, whatever happens next: what
+-- an instance is like that isn't fenced, and which transactions it may still write (KIP-618, KIP-98). They are this
+-- project's own.
+use Rattle.std.specs.Prelude.{◌≡◌, ◌≢◌, ℕ, ◌<◌, ◌≤◌, ◌+◌, ◌&&◌, Bool, true, false, not, List, [], ◌∷◌, ◌++◌, length, map, Option, Some, None, slice_get, if◌then◌else◌}
 use Rattle.std.specs.List.{filter, filter_map, zip, AllByRecursion}
 use Rattle.cw_types.specs.declared.ids.Item.TheVariants.{Task}
 use Rattle.cw_types.specs.declared.ids.Tid.TheVariants as producer
@@ -69,7 +70,8 @@ pub record HasUsed (s : Cluster) (id : TaskId) (epoch next_batch next_commit : �
   pub batches : AllByRecursion (IsBelow id epoch next_batch) (batch_tags s)
   pub commits : AllByRecursion (IsBelow id epoch next_commit) (commit_tags s)
 
--- the number of its next batch: nothing was written while it is starting, and while its transaction is open, that has a batch
+-- the number of its next batch: nothing was written while it is starting, and while its transaction is open, that has
+-- a batch
 abbrev pub batches_up_to : Instance → ℕ
 batches_up_to i =
     if is_starting i.phase then 0 else if has_open_transaction i.phase then i.number + 1 else i.number
@@ -82,8 +84,8 @@ commits_up_to i = if is_starting i.phase then 0 else i.number
 abbrev pub tag_in_hand : TaskId → ℕ → Instance → Tag
 tag_in_hand id epoch i = record { tid = producer.Task id; epoch = record { 0 = epoch }; number = i.number }
 
--- the one batch of an instance's transaction: it is of the part that was polled last, begins at the position there, is what was cut, isn't empty, and has
--- what the feeds yield between
+-- the one batch of an instance's transaction: it is of the part that was polled last, begins at the position there, is
+-- what was cut, isn't empty, and has what the feeds yield between
 pub record HasItsBatch (feeds : Files) (batches : List Batch) (tag : Tag) (i : Instance) : Type 0 where
   pub batch : Batch
   pub cut : Cut
@@ -110,8 +112,10 @@ pub record IsToBeFenced (fencing : Fencing) (index : ℕ) : Type 0 where
 
 -- the facts of producers
 pub record ProducerFacts (setting : Setting) (s : Cluster) : Type 0 where
-  -- an unfenced producer is of the generation for which the last fence stands: nothing that it commits is older than a standing fence
-  pub generation : (n : ℕ) (id : TaskId) → IsUnfenced s n id → fenced_generation_of id.connector s.configs ≡ Some (instance_of n s).generation
+  -- an unfenced producer is of the generation for which the last fence stands: nothing that it commits is older than a
+  -- standing fence
+  pub generation : (n : ℕ) (id : TaskId) → IsUnfenced s n id →
+      fenced_generation_of id.connector s.configs ≡ Some (instance_of n s).generation
   -- and it is one of the tasks that this fence counts, so that the next fencing meets it
   pub counted : (n : ℕ) (id : TaskId) → IsUnfenced s n id → id.index < fenced_count_of id.connector s.configs
   -- its positions are the ends of its parts: what it commits next goes on from there
@@ -120,24 +124,29 @@ pub record ProducerFacts (setting : Setting) (s : Cluster) : Type 0 where
   -- no other one reads its parts, so that its positions stay the ends
   pub apart : (m n : ℕ) (a b : TaskId) → m ≢ n → IsUnfenced s m a → IsUnfenced s n b → a.connector ≡ b.connector →
       ShareNone (parts_of (instance_of m s)) (parts_of (instance_of n s))
-  -- an instance of the newest generation does what its task's config asks: `verify` needs it, since the configs of one commit share no part, and what is
-  -- quiet is done by it
+  -- an instance of the newest generation does what its task's config asks: `verify` needs it, since the configs of one
+  -- commit share no part, and what is quiet is done by it
   pub task : (n : ℕ) (id : TaskId) → IsNewest s n id → spec_in s.configs id ≡ (instance_of n s).task
-  -- while its transaction is open, the data log has one batch of it, which is what it would commit: `commit` needs it, which writes the span of the cut. It
-  -- is so of an instance that is fenced, too
-  pub one_batch : (n : ℕ) (id : TaskId) (epoch : ℕ) → Writes s n id epoch → has_open_transaction (instance_of n s).phase ≡ true →
+  -- while its transaction is open, the data log has one batch of it, which is what it would commit: `commit` needs it,
+  -- which writes the span of the cut. It is so of an instance that is fenced, too
+  pub one_batch : (n : ℕ) (id : TaskId) (epoch : ℕ) → Writes s n id epoch →
+      has_open_transaction (instance_of n s).phase ≡ true →
       HasItsBatch setting.feeds (batches_of s.batches) (tag_in_hand id epoch (instance_of n s)) (instance_of n s)
   -- an older producer that isn't fenced yet has its turn still to come: when the fence is written, there is none
-  pub fencing : (w n : ℕ) (fencing : Fencing) (id : TaskId) → IsFencing s w fencing → IsUnfenced s n id → id.connector ≡ fencing.connector →
+  pub fencing : (w n : ℕ) (fencing : Fencing) (id : TaskId) → IsFencing s w fencing → IsUnfenced s n id →
+      id.connector ≡ fencing.connector →
       (instance_of n s).generation < fencing.generation → IsToBeFenced fencing id.index
-  -- an instance of the newest generation isn't ahead of what is committed: one that is at its end leaves nothing behind it
+  -- an instance of the newest generation isn't ahead of what is committed: one that is at its end leaves nothing
+  -- behind it
   pub not_ahead : (n : ℕ) (id : TaskId) → IsNewest s n id →
-      AllByRecursion (λ p. p.1 ≤ end_or_start p.0 s.entries) (zip (parts_of (instance_of n s)) (instance_of n s).positions)
+      AllByRecursion (λ p. p.1 ≤ end_or_start p.0 s.entries)
+      (zip (parts_of (instance_of n s)) (instance_of n s).positions)
   -- no two instances have one id and one epoch: a bump fences all but one
   pub apart_epochs : (m n : ℕ) (id : TaskId) (epoch : ℕ) → m ≢ n → Writes s m id epoch → Writes s n id epoch → ⊥
   -- no instance is ahead of its id's last epoch, so that the next one is new
   pub known_epochs : (n : ℕ) (id : TaskId) (epoch : ℕ) → Writes s n id epoch → epoch ≤ last_epoch (producer.Task id) s
-  -- what it has written has numbers below those of its next transaction: `produce`, `commit` and `put_sink` need it, so that no transaction has two batches
-  -- of a part, and none is committed twice. It is so of an instance that is fenced, too
+  -- what it has written has numbers below those of its next transaction: `produce`, `commit` and `put_sink` need it,
+  -- so that no transaction has two batches of a part, and none is committed twice. It is so of an instance that is
+  -- fenced, too
   pub numbers : (n : ℕ) (id : TaskId) (epoch : ℕ) → Writes s n id epoch → has_epoch (instance_of n s).phase ≡ true →
       HasUsed s id epoch (batches_up_to (instance_of n s)) (commits_up_to (instance_of n s))

@@ -1,5 +1,5 @@
--- The facts of the workers' rows and of each instance, of what it is and what it has in its phase, from which the facts of the group and of producers
--- follow at the next event. They are this project's own.
+-- The facts of the workers' rows and of each instance, of what it is and what it has in its phase, from which the
+-- facts of the group and of producers follow at the next event. They are this project's own.
 use Rattle.std.specs.Prelude.{◌≡◌, ◌≢◌, ℕ, ◌<◌, ◌≤◌, ◌^◌, ◌||◌, Bool, true, false, List, length, Any, Option, Some, None, IsSome, slice_get}
 use Rattle.std.specs.Bool.{⊤}
 use Rattle.std.specs.Option.{IsSomeAnd}
@@ -33,22 +33,26 @@ use Rattle.cw_model.specs.Phases.{is_working, has_epoch, is_fetched, has_open_tr
 -- a fencing is of a generation that its connector had, which isn't above the newest
 abbrev pub IsBegun : List ConfigRecord → Option Fencing → Type 0
 IsBegun records None = ⊤
-IsBegun records (Some fencing) = IsSomeAnd (generation_of fencing.connector records) (λ newest. fencing.generation ≤ newest)
+IsBegun records (Some fencing) = IsSomeAnd (generation_of fencing.connector records)
+    (λ newest. fencing.generation ≤ newest)
 
 -- the facts of a row
 pub record IsSoundRow (s : Cluster) (row : Row) : Type 0 where
-  -- it has read no more of the config log than there is: `start_item` and `fence_one` need it, which judge by what was read
+  -- it has read no more of the config log than there is: `start_item` and `fence_one` need it, which judge by what was
+  -- read
   pub prefix : row.prefix ≤ length s.configs
   -- its lead epoch isn't ahead of the last one: `claim_lead` needs it, so that its epoch is no other row's
   pub lead : epoch_in row.lead ≤ last_epoch Lead s
-  -- its fencing isn't ahead of the newest generation: `verify` needs it, so that a task which goes on is none of those that the leader fences
+  -- its fencing isn't ahead of the newest generation: `verify` needs it, so that a task which goes on is none of those
+  -- that the leader fences
   pub fencing : IsBegun s.configs row.fencing
   -- its round is one that a status can tell: `put_status` needs it
   pub round : row.round < 2 ^ 64
 
 -- ---- instances
 
--- what some properties ask of a task of this connector: its parts are therefore the connector's own, none twice, and its topic is a name
+-- what some properties ask of a task of this connector: its parts are therefore the connector's own, none twice, and
+-- its topic is a name
 pub record IsTaskSpecOf (connector : List ℕ) (spec : TaskSpec) : Type 0 where
   pub properties : Properties
   pub asked : task_of connector properties ≡ Some spec
@@ -85,11 +89,14 @@ pub record IsSoundInstance (s : Cluster) (i : Instance) : Type 0 where
   -- it is at a worker that is there, and has a name that a status can tell: `put_status` needs both
   pub at_worker : i.worker < length s.rows
   pub named : IsItem i.item
-  -- it is a connector's or a task's: what writes is a task's, of parts of its own, which `commit` and `put_sink` need, since no task writes another's
+  -- it is a connector's or a task's: what writes is a task's, of parts of its own, which `commit` and `put_sink` need,
+  -- since no task writes another's
   pub of_item : IsOfItem s.configs i.item i
-  -- its generation is that of a record which is there: `append_config` needs it, so that a new commit's generation is no instance's
+  -- its generation is that of a record which is there: `append_config` needs it, so that a new commit's generation is
+  -- no instance's
   pub generation : i.generation < end_of s.configs
-  -- a source's task produces, and a sink's delivers: `commit` needs it, which is of a source's parts alone, and `put_sink`, which is of a sink's
+  -- a source's task produces, and a sink's delivers: `commit` needs it, which is of a source's parts alone, and
+  -- `put_sink`, which is of a sink's
   pub source : has_open_transaction i.phase ≡ true → is_source i ≡ true
   pub sink : i.phase ≡ phase.Delivered → is_sink i ≡ true
   -- it has its epoch from `init` on: whatever it writes, it writes as a producer
@@ -100,7 +107,8 @@ pub record IsSoundInstance (s : Cluster) (i : Instance) : Type 0 where
   pub cut : has_cut i.phase ≡ true → IsSomeAnd i.cut (λ cut. cut.turn < length (parts_of i))
   -- what a sink handed out goes on from its position: `put_sink` needs it, which stores how far that came
   pub delivered : i.phase ≡ phase.Delivered → IsSomeAnd i.cut (HandsOut i)
-  -- it has committed no more transactions than there are entries: `commit` needs it, since a number stays at the greatest one, and a full log has fewer entries
+  -- it has committed no more transactions than there are entries: `commit` needs it, since a number stays at the
+  -- greatest one, and a full log has fewer entries
   pub number : i.number ≤ list_end s.entries
 
 -- the facts of all rows and instances

@@ -1,5 +1,6 @@
--- What no event takes back: the session lists, the journal and what each worker has read only grow. By it an entry of the journal stays true whatever happens
--- next, and a length of a session list names a moment for ever. This project's own.
+-- What no event takes back: the session lists, the journal and what each worker has read only grow. By it an entry of
+-- the journal stays true whatever happens next, and a length of a session list names a moment for ever. This project's
+-- own.
 use Rattle.std.specs.Prelude.{◌≡◌, ◌≤◌, ℕ, List, ◌++◌, Option, Some, IsSome}
 use Rattle.cw_model.specs.State.{Cluster}
 use Rattle.cw_model.specs.Lookups.{row_of}

@@ -1,5 +1,6 @@
--- The journal of the calls that were answered: what a reply saw, when an entry is true, and the event that keeps one. Kafka Connect has no such journal: it
--- is this project's own, and by it a reader's replies never go back, and hold what the reader wrote.
+-- The journal of the calls that were answered: what a reply saw, when an entry is true, and the event that keeps one.
+-- Kafka Connect has no such journal: it is this project's own, and by it a reader's replies never go back, and hold
+-- what the reader wrote.
 use Rattle.std.specs.Prelude.{◌≡◌, ◌⊎◌, ◌+◌, ◌<◌, ◌≤◌, ℕ, ◌&&◌, ◌==◌, Bool, true, false, not, List, [], ◌∷◌, ◌++◌, length, map, take, drop, nat_le, nat_lt, Option, IsSome, if◌then◌else◌}
 use Rattle.std.specs.Bool.{⊤}
 use Rattle.std.specs.Option.{option_map_or}
@@ -50,8 +51,8 @@ pub record OnlyRead (e : JournalEntry) : Type 0 where
 
 -- ---- the truth of an entry
 
--- the reply is the right one, whether the worker was ready or not; or it tells that memory ran out, that a log is full or, in a closed cluster, that a disk
--- failed
+-- the reply is the right one, whether the worker was ready or not; or it tells that memory ran out, that a log is full
+-- or, in a closed cluster, that a disk failed
 pub record IsRightReply (setting : Setting) (s : Cluster) (e : JournalEntry) : Type 0 where
   pub ready : Bool
   pub is : e.reply ≡ reply_to ready (seen_by setting s e) e.call
@@ -71,7 +72,8 @@ pub record IsOfBoard (e : JournalEntry) : Type 0 where
   pub statuses : e.statuses ≡ 0
   pub entries : e.entries ≡ 0
 
--- an entry of a worker goes on behind an earlier one of that worker: what was read stays read, and what was written is seen
+-- an entry of a worker goes on behind an earlier one of that worker: what was read stays read, and what was written is
+-- seen
 pub record GoesOnBehind (e earlier : JournalEntry) : Type 0 where
   pub prefix : OnlyRead earlier → OnlyRead e → earlier.prefix ≤ e.prefix
   pub statuses : OnlyRead earlier → OnlyRead e → earlier.statuses ≤ e.statuses
@@ -137,7 +139,8 @@ pub record FindsOffsetsFull (setting : Setting) (s : Cluster) (e : JournalEntry)
   pub full : fits_entries (entries_of (seen_by setting s e) e.call) s ≡ false
   pub reply : e.reply ≡ full_reply Txn
 
--- a call that wrote nothing was answered by what is now: rightly, or that a log is full, that memory ran out or, in a closed cluster, that a disk failed
+-- a call that wrote nothing was answered by what is now: rightly, or that a log is full, that memory ran out or, in a
+-- closed cluster, that a disk failed
 pub record IsAnsweredNow (setting : Setting) (s : Cluster) (e : JournalEntry) : Type 0 where
   pub sees : SeesAsOfNow s e
   pub no_configs : WroteConfigs e → ⊥
@@ -145,7 +148,8 @@ pub record IsAnsweredNow (setting : Setting) (s : Cluster) (e : JournalEntry) : 
   pub reply : IsReplyOfNow setting s e ⊎ (FindsConfigsFull s e ⊎ (FindsOffsetsFull setting s e ⊎
       ((e.reply ≡ memory_reply) ⊎ (IsSome s.closed × (e.reply ≡ failed_reply)))))
 
--- what may be kept: a call that wrote nothing, by what is now; one that wrote, or one that was read from a published view, where it is true
+-- what may be kept: a call that wrote nothing, by what is now; one that wrote, or one that was read from a published
+-- view, where it is true
 abbrev pub MayJournal : Setting → JournalEntry → Cluster → Type 0
 MayJournal setting e s = IsAnsweredNow setting s e ⊎
     (((WroteConfigs e ⊎ WroteOffsets e) ⊎ (e.board ≡ true)) × IsTrueEntry setting s s.journal e)

@@ -31,9 +31,13 @@ pub mod Refusals
 pub mod Ready
 pub mod Journal
 pub mod Proposals
+pub mod TickRules
 pub mod Tick
 pub mod TickText
 pub mod Quiet
+pub mod Polls
+pub mod Steps
+pub mod StepText
 pub mod Reopening
 pub mod Runs
 pub mod WorkedCases

@@ -1,5 +1,5 @@
--- What is looked up in a state: a worker's row, an instance, what a worker has read of the config log, what it holds, which items are
--- configured, and what stands in the logs of offsets and transactions.
+-- What is looked up in a state: a worker's row, an instance, what a worker has read of the config log, what it holds,
+-- which items are configured, and what stands in the logs of offsets and transactions.
 use Rattle.std.specs.Prelude.{ℕ, ◌+◌, ◌==◌, ◌&&◌, Bool, true, false, not, List, [], ◌∷◌, ◌++◌, length, map, take, drop, nat_lt, slice_index_or, Option, Some, None, max, unwrap_or, is_some}
 use Rattle.std.specs.Bool.{⊤}
 use Rattle.std.specs.List.{filter, filter_map, flat_map, fold, range_with_len}
@@ -30,11 +30,33 @@ use Rattle.cw_model.specs.Phases.{is_ended}
 
 -- a worker as it is made: it lives and hears, and is no member
 abbrev pub new_row : Row
-new_row = record { live = true; hearing = true; incarnation = None; phase = Out; round = 0; assigned = []; revoked = []; prefix = 0; lead = None; fencing = None }
+new_row = record {
+  live = true;
+  hearing = true;
+  incarnation = None;
+  phase = Out;
+  round = 0;
+  assigned = [];
+  revoked = [];
+  prefix = 0;
+  lead = None;
+  fencing = None;
+}
 
 -- a worker that never was, which counts as killed
 abbrev pub no_row : Row
-no_row = record { live = false; hearing = false; incarnation = None; phase = Out; round = 0; assigned = []; revoked = []; prefix = 0; lead = None; fencing = None }
+no_row = record {
+  live = false;
+  hearing = false;
+  incarnation = None;
+  phase = Out;
+  round = 0;
+  assigned = [];
+  revoked = [];
+  prefix = 0;
+  lead = None;
+  fencing = None;
+}
 
 -- the row of a worker
 abbrev pub row_of : ℕ → Cluster → Row
@@ -90,17 +112,20 @@ connector_of (Task id) = id.connector
 
 -- the items of a connector that is configured: itself and its tasks
 abbrev pub items_of : List ConfigRecord → List ℕ → List Item
-items_of records name = Connector name ∷ map (λ index. Task (record { connector = name; index = index })) (range_with_len 0 (task_count_of name records))
+items_of records name = Connector name ∷ map (λ index. Task (record { connector = name; index = index }))
+    (range_with_len 0 (task_count_of name records))
 
 -- the configured connectors' items, in item order
 abbrev pub configured_items : List ConfigRecord → List Item
 configured_items records =
-    in_order (flat_map (items_of records) (filter (λ name. is_some (config_of name records)) (filter_map (λ r. connector_key r.key) records)))
+    in_order (flat_map (items_of records) (filter (λ name. is_some (config_of name records))
+    (filter_map (λ r. connector_key r.key) records)))
 
 -- whether an item is configured: its connector is, and a task's number is below the count
 abbrev pub is_configured : List ConfigRecord → Item → Bool
 is_configured records (Connector name) = is_some (config_of name records)
-is_configured records (Task id) = is_some (config_of id.connector records) && nat_lt id.index (task_count_of id.connector records)
+is_configured records (Task id) = is_some (config_of id.connector records) &&
+    nat_lt id.index (task_count_of id.connector records)
 
 -- the last epoch of a producer
 abbrev pub last_epoch : Tid → Cluster → ℕ

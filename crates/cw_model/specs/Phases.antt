@@ -1,6 +1,6 @@
--- What an instance is in each phase, as a table with a column for each question that is asked of a phase (KIP-618: a source
--- task initialises its producer, verifies its generation, fetches its positions, and then polls, produces, stores offsets and
--- commits).
+-- What an instance is in each phase, as a table with a column for each question that is asked of a phase (KIP-618: a
+-- source task initialises its producer, verifies its generation, fetches its positions, and then polls, produces,
+-- stores offsets and commits).
 use Rattle.std.specs.Prelude.{◌&&◌, ◌||◌, Bool, true, false, not}
 use Rattle.cw_model.specs.declared.instance.InstancePhase.{InstancePhase}
 use Rattle.cw_model.specs.declared.instance.InstancePhase.TheVariants.{Connector, New, Inited, Verified, Polling, Produced, Offered, Delivered, Failed, Ended}

@@ -1,4 +1,5 @@
--- When a cluster is quiet, and when it has done all that its connectors ask for. Both are this project's own: Kafka Connect says neither.
+-- When a cluster is quiet, and when it has done all that its connectors ask for. Both are this project's own: Kafka
+-- Connect says neither.
 use Rattle.std.specs.Prelude.{◌≡◌, ◌≢◌, ◌⊎◌, ℕ, ◌≤◌, Bool, true, false, List, [], map, drop, Some, None, IsSome, IfSome}
 use Rattle.std.specs.Bool.{⊤}
 use Rattle.std.specs.List.{zip, AllByRecursion}
@@ -27,12 +28,14 @@ use Rattle.cw_model.specs.Tick.{rule_for}
 
 -- ---- quiet
 
--- a task finds nothing in a part from a position on: a source's feed or sequence has no more whole record, and a sink's topic has no committed record
--- below its last stable offset
+-- a task finds nothing in a part from a position on: a source's feed or sequence has no more whole record, and a
+-- sink's topic has no committed record below its last stable offset
 abbrev pub HasNoMore : Files → List DataEntry → TaskSpec → PartKey → ℕ → Type 0
 HasNoMore feeds log task (Raw n) position = ⊤
-HasNoMore feeds log task (File connector feed) position = next_cut feeds (File connector feed) task.count position task.batch ≡ AtEnd
-HasNoMore feeds log task (Seq connector index) position = next_cut feeds (Seq connector index) task.count position task.batch ≡ AtEnd
+HasNoMore feeds log task (File connector feed) position =
+    next_cut feeds (File connector feed) task.count position task.batch ≡ AtEnd
+HasNoMore feeds log task (Seq connector index) position =
+    next_cut feeds (Seq connector index) task.count position task.batch ≡ AtEnd
 HasNoMore feeds log task (Sink connector topic) position = taken topic position log ≡ None
 
 -- a task that polls finds nothing in each of its parts
@@ -78,14 +81,17 @@ IsReadThrough feeds count (Sink connector topic) end = ⊤
 
 -- what is committed of each source part of a task reaches its source's end
 abbrev pub IsThrough : Setting → Cluster → TaskSpec → Type 0
-IsThrough setting s task = AllByRecursion (λ part. IsReadThrough setting.feeds task.count part (end_or_start part s.entries)) task.parts
+IsThrough setting s task =
+    AllByRecursion (λ part. IsReadThrough setting.feeds task.count part (end_or_start part s.entries)) task.parts
 
 -- a connector has the tasks that it asks for, all of it runs, and, where it is started, its sources are read through
 pub record IsDoneFor (setting : Setting) (s : Cluster) (name : List ℕ) : Type 0 where
   pub tasks : tasks_of name s.configs ≡ map Some (proposal_of name s.configs)
   pub runs : AllByRecursion (RunsOnce s) (items_of s.configs name)
-  pub through : target_of name s.configs ≡ Started → AllByRecursion (λ props. IfSome (task_of name props) (IsThrough setting s)) (proposal_of name s.configs)
+  pub through : target_of name s.configs ≡ Started → AllByRecursion
+      (λ props. IfSome (task_of name props) (IsThrough setting s)) (proposal_of name s.configs)
 
 -- all is done: for each connector that is configured and not stopped
 abbrev pub IsDone : Setting → Cluster → Type 0
-IsDone setting s = (name : List ℕ) → IsSome (config_of name s.configs) → target_of name s.configs ≢ Stopped → IsDoneFor setting s name
+IsDone setting s = (name : List ℕ) → IsSome (config_of name s.configs) → target_of name s.configs ≢ Stopped →
+    IsDoneFor setting s name

@@ -1,5 +1,5 @@
--- Which worker may write through which leader, and which connectors it has to fence. Kafka Connect's workers hand a write on to the leader; that a worker
--- without one answers that a rebalance goes on is Connect's REST API.
+-- Which worker may write through which leader, and which connectors it has to fence. Kafka Connect's workers hand a
+-- write on to the leader; that a worker without one answers that a rebalance goes on is Connect's REST API.
 use Rattle.std.specs.Prelude.{ℕ, ◌==◌, ◌&&◌, Bool, true, false, List, Option, Some, None, is_some, if◌then◌else◌}
 use Rattle.std.specs.List.{filter, filter_map}
 use Rattle.cw_types.specs.declared.ids.Item.{Item}
@@ -27,7 +27,8 @@ is_stable_in round (Stable own leader) = own == round
 
 -- whether a worker leads a round: it takes part, has the round's assignment from itself, and claimed an epoch
 abbrev pub leads_round : (round w : ℕ) → Cluster → Bool
-leads_round round w s = is_active s w && is_stable_in round (row_of w s).phase && leads w (row_of w s).phase && is_some (row_of w s).lead
+leads_round round w s = is_active s w && is_stable_in round (row_of w s).phase && leads w (row_of w s).phase &&
+    is_some (row_of w s).lead
 
 -- the leader of a worker's assignment, where it leads that round
 abbrev pub leader_for : RowPhase → Cluster → Option ℕ

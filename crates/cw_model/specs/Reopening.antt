@@ -1,5 +1,5 @@
--- What the log files hold at a moment and open to, and what a disk that fails and want of memory do to an event. All of it is this project's own, as are the
--- files.
+-- What the log files hold at a moment and open to, and what a disk that fails and want of memory do to an event. All
+-- of it is this project's own, as are the files.
 use Rattle.std.specs.Prelude.{◌≡◌, ◌⊎◌, ℕ, List, [], map, Option, Some, None, Result, Err}
 use Rattle.cw_types.specs.declared.logs.DiskName.{DiskName}
 use Rattle.cw_bytes.specs.Spelling.{records_bytes}
@@ -58,8 +58,8 @@ reopened s = record {
 abbrev pub closed_by : DiskName → (count : ℕ) → Cluster → Cluster
 closed_by disk count s = record s { closed = Some (disk, count) }
 
--- what an event may do in place of what it answers: memory runs out, and the state stays; or a disk fails, and the state stays, closed. Only an event that
--- would be done meets either; one that is refused is refused
+-- what an event may do in place of what it answers: memory runs out, and the state stays; or a disk fails, and the
+-- state stays, closed. Only an event that would be done meets either; one that is refused is refused
 abbrev pub runs_out : {A : Type 0} → Cluster → Answer A
 runs_out s = refused Memory s
 

@@ -1,5 +1,5 @@
--- A run of the cluster: from a state that was opened on, one step behind the other, each where its caller may make it. Whatever the order of the steps, at
--- whatever workers and instances, it is a run. This project's own.
+-- A run of the cluster: from a state that was opened on, one step behind the other, each where its caller may make it.
+-- Whatever the order of the steps, at whatever workers and instances, it is a run. This project's own.
 use Rattle.std.specs.Prelude.{ℕ, List, [], ◌∷◌, take, Option}
 use Rattle.std.specs.Bool.{⊤}
 use Rattle.std.specs.List.{fold}

@@ -1,5 +1,5 @@
--- When what the log files hold stands for a state without workers, and which harm is met first where it doesn't. All of it is this
--- project's own, as are the files.
+-- When what the log files hold stands for a state without workers, and which harm is met first where it doesn't. All
+-- of it is this project's own, as are the files.
 use Rattle.std.specs.Prelude.{◌≡◌, ◌↔◌, ◌⊎◌, ℕ, ◌≤◌, true, List, [], ◌∷◌, ◌++◌, length, Some, None, IsSome}
 use Rattle.std.specs.Bool.{⊤}
 use Rattle.std.specs.Option.{IsSomeAnd}
@@ -35,7 +35,8 @@ use Rattle.cw_model.specs.Committed.{is_task, batches_of, is_batch_of, Agrees}
 use Rattle.cw_model.specs.ConfigsAllowed.{IsAllowedConfig}
 use Rattle.cw_model.specs.Allowed.{IsAllowedStatus, IsAllowedStored, IsAllowedData}
 
--- what the files of the five logs hold: the bodies of their frames, of a pair those of its chosen side, and that side's number
+-- what the files of the five logs hold: the bodies of their frames, of a pair those of its chosen side, and that
+-- side's number
 pub record Stored : Type 0 where
   pub config : Paired (List ℕ)
   pub offsets : Paired (List ℕ)
@@ -123,10 +124,24 @@ reading_of stored Batches = judged (IsReadable data_at) stored.batches
 
 -- ---- then each must be allowed at its place
 
+-- What is allowed, item by item, and the definition that says it:
+-- an offset above all earlier ones of its log, a key and a value in their grammars   IsAllowedConfig, IsAllowedStatus,
+--                                                                                    IsAllowedOffset
+-- a connector's value that its class takes, a task's value that names a task         FitsBehind
+-- a commit that finds its tasks, none of whose parts is in two, and none if stopped  FitsCommit
+-- a target Stopped that finds no task                                                FitsTarget
+-- a fence that has its commit's number                                               FitsFence
+-- entries that are legal, of parts that their producers own, none named twice        IsAllowedBehind (of transactions)
+-- no epoch of a batch, an offset record or a marker ahead of its producer's          IsKnown
+-- a batch that is its transaction's first of its part, without line ends in values   IsAllowedBatch
+-- an offset record before its transaction's marker                                   AreAllowedRecords
+-- a marker that is its transaction's first, and tells how that ended                 IsAllowedMark
+
 -- records of the config topic, each of which may stand behind those before it
 abbrev pub IsAllowedFrame : List ConfigRecord → List Applied → Type 0
 IsAllowedFrame before [] = ⊤
-IsAllowedFrame before (a ∷ frame) = IsSomeAnd (config_in a) (λ r. IsAllowedConfig before r × IsAllowedFrame (before ++ r ∷ []) frame)
+IsAllowedFrame before (a ∷ frame) = IsSomeAnd (config_in a)
+    (λ r. IsAllowedConfig before r × IsAllowedFrame (before ++ r ∷ []) frame)
 
 -- the frames of a log, as each is allowed at its place
 abbrev pub allowing_of : Frames → LogName → Judgement
@@ -147,14 +162,18 @@ pub record IsBatchFor (tag : Tag) (span : Span) (batch : Batch) : Type 0 where
 -- each span that a task commits has a batch
 abbrev pub HasSomeBatches : List DataEntry → Entry → Type 0
 HasSomeBatches log (Bump tid) = ⊤
-HasSomeBatches log (Commit tag generation spans) = is_task tag.tid ≡ true → AllByRecursion (λ span. Any (IsBatchFor tag span) (batches_of log)) spans
+HasSomeBatches log (Commit tag generation spans) =
+    is_task tag.tid ≡ true → AllByRecursion (λ span. Any (IsBatchFor tag span) (batches_of log)) spans
 HasSomeBatches log (Set tid epoch list) = ⊤
 
--- an entry behind others goes on from where its parts ended, has its batches, and is no commit of an older task behind a standing fence
-pub record IsSafeEntry (records : List ConfigRecord) (log : List DataEntry) (before : List Entry) (entry : Entry) : Type 0 where
+-- an entry behind others goes on from where its parts ended, has its batches, and is no commit of an older task behind
+-- a standing fence
+pub record IsSafeEntry
+    (records : List ConfigRecord) (log : List DataEntry) (before : List Entry) (entry : Entry) : Type 0 where
   pub chains : (part : PartKey) → ChainsBehind part before entry
   pub batches : HasSomeBatches log entry
-  pub fenced : (name : List ℕ) (generation mark : ℕ) → StandingFence records name generation mark → mark ≤ list_end before → IsNotOlder name generation entry
+  pub fenced : (name : List ℕ) (generation mark : ℕ) → StandingFence records name generation mark →
+      mark ≤ list_end before → IsNotOlder name generation entry
 
 -- no stamp is past the end of the transaction list
 abbrev pub AreStamped : List Entry → List Applied → Type 0
@@ -165,7 +184,8 @@ abbrev pub safety_of : Frames → LogName → Judgement
 safety_of frames Config = judged (λ before frame. AreStamped (entries_in frames) frame) frames.config
 safety_of frames Offsets = judged (λ before frame. ⊤) frames.offsets
 safety_of frames Status = judged (λ before frame. ⊤) frames.status
-safety_of frames Txn = judged (λ before frame. EachFrom (IsSafeEntry (configs_in frames.config) frames.batches) (joined before) frame) frames.txn
+safety_of frames Txn = judged (λ before frame. EachFrom (IsSafeEntry (configs_in frames.config) frames.batches)
+    (joined before) frame) frames.txn
 safety_of frames Batches = judged (λ before frame. ⊤) frames.batches
 
 -- ---- the first harm
@@ -183,7 +203,8 @@ pub record IsFirstUnsafe (stored : Stored) (log : LogName) (at : ℕ) : Type 0 w
   pub allowed : AreSound (allowing_of frames)
   pub first : IsFirstOf (safety_of frames) log at
 
--- the first harm over all logs, and the number of its frame: all bodies are read before one is judged, and all are judged before one is called unsafe
+-- the first harm over all logs, and the number of its frame: all bodies are read before one is judged, and all are
+-- judged before one is called unsafe
 abbrev pub IsFirstHarm : Stored → LogName → ℕ → Harm → Type 0
 IsFirstHarm stored log at Magic = ⊥
 IsFirstHarm stored log at Version = ⊥

@@ -1,6 +1,6 @@
--- The state of the whole cluster, as plain lists: the logs, the group, the workers and what they run, as Kafka Connect's
--- distributed mode has them (Connect's config, offset and status topics; KIP-415, KIP-618). The data log and the transaction
--- list stand for Kafka's topics and its transaction coordinator.
+-- The state of the whole cluster, as plain lists: the logs, the group, the workers and what they run, as Kafka
+-- Connect's distributed mode has them (Connect's config, offset and status topics; KIP-415, KIP-618). The data log and
+-- the transaction list stand for Kafka's topics and its transaction coordinator.
 use Rattle.std.specs.Prelude.{ℕ, Bool, List, Option}
 use Rattle.cw_types.specs.declared.ids.Item.{Item}
 use Rattle.cw_types.specs.declared.logs.DiskName.{DiskName}
@@ -18,8 +18,8 @@ use Rattle.cw_model.specs.declared.instance.Instance.{Instance}
 use Rattle.cw_model.specs.declared.journal.JournalEntry.{JournalEntry}
 
 -- what stays the same through a run: the group's name, the scheduled delay in milliseconds (KIP-415), the feeds, and
--- whether what was committed was what they yield when the logs were opened, since other feeds may be handed in under the
--- same names (this project's own)
+-- whether what was committed was what they yield when the logs were opened, since other feeds may be handed in under
+-- the same names (this project's own)
 pub record Setting : Type 0 where
   pub group : List ℕ
   pub delay : ℕ

@@ -1,6 +1,7 @@
--- What the events change: a worker's row, an instance, a frame that one log has more. A record gets the next offset of its log, and
--- as its stamp how long the transaction list was (this project's own). A log that has no room for a frame, or no offset for a
--- record, is full. A leader or a task that writes under an epoch that isn't its producer's last is fenced (KIP-98, KIP-618).
+-- What the events change: a worker's row, an instance, a frame that one log has more. A record gets the next offset of
+-- its log, and as its stamp how long the transaction list was (this project's own). A log that has no room for a
+-- frame, or no offset for a record, is full. A leader or a task that writes under an epoch that isn't its producer's
+-- last is fenced (KIP-98, KIP-618).
 use Rattle.std.specs.Prelude.{ℕ, ◌+◌, ◌^◌, ◌==◌, ◌&&◌, Bool, List, [], ◌∷◌, ◌++◌, map, length, nat_lt, slice_set, Option, Some, None, if◌then◌else◌}
 use Rattle.std.specs.List.{flat_map, list_all}
 use Rattle.cw_types.specs.declared.ids.Epoch.{Epoch}
@@ -73,7 +74,10 @@ is_offset offset = nat_lt offset (2 ^ 64)
 -- one frame more of the config log: the records as they are written
 abbrev pub with_configs : List ConfigRecord → Cluster → Cluster
 with_configs records s =
-    record s { config = record (s.config) { frames = s.config.frames ++ map config_applied records ∷ [] }; configs = s.configs ++ records }
+    record s {
+      config = record (s.config) { frames = s.config.frames ++ map config_applied records ∷ [] };
+      configs = s.configs ++ records;
+    }
 
 -- one entry more of the offset log
 abbrev pub with_offset : OffsetEntry → Cluster → Cluster
@@ -82,7 +86,10 @@ with_offset entry s = record s { offsets = record (s.offsets) { frames = s.offse
 -- one record more of the status log
 abbrev pub with_status : StampedStatus → Cluster → Cluster
 with_status r s =
-    record s { status = record (s.status) { frames = s.status.frames ++ (status_applied r ∷ []) ∷ [] }; statuses = s.statuses ++ r ∷ [] }
+    record s {
+      status = record (s.status) { frames = s.status.frames ++ (status_applied r ∷ []) ∷ [] };
+      statuses = s.statuses ++ r ∷ [];
+    }
 
 -- one frame more of the transaction log
 abbrev pub with_entries : List Entry → Cluster → Cluster
@@ -99,7 +106,8 @@ fits_configs frame s =
 
 abbrev pub fits_offset : OffsetEntry → Cluster → Bool
 fits_offset entry s =
-    list_all (λ r. is_offset r.offset) (offset_records entry) && has_room (offsets_length s) (frame_of (offset_body entry))
+    list_all (λ r. is_offset r.offset) (offset_records entry) &&
+    has_room (offsets_length s) (frame_of (offset_body entry))
 
 abbrev pub fits_status : StampedStatus → Cluster → Bool
 fits_status r s = is_offset r.status.offset && has_room (status_length s) (frame_of (status_body (r ∷ [])))
@@ -182,5 +190,6 @@ tid_of item = TaskTid (task_id_of item)
 
 -- what a task does, unless its producer is fenced
 abbrev pub as_producer : {A : Type 0} → ℕ → Answer A → Cluster → Answer A
-as_producer i done s = unless_fenced (epoch_in (instance_of i s).epoch) (last_epoch (tid_of (instance_of i s).item) s) done
+as_producer i done s = unless_fenced (epoch_in (instance_of i s).epoch)
+    (last_epoch (tid_of (instance_of i s).item) s) done
     (refused (Fenced (epoch_in (instance_of i s).epoch) (last_epoch (tid_of (instance_of i s).item) s)) s)

@@ -9,6 +9,7 @@
 
 mod alterations;
 mod cases;
+mod did;
 mod fault;
 mod instance;
 mod journal;
@@ -31,6 +32,7 @@ pub use cases::{
     new_task_goes_on_once_fenced, new_task_waits_for_its_fence, old_leader_is_fenced_and_gives_up,
     zombie_commits_no_more_once_fenced,
 };
+pub use did::Did;
 pub use fault::WorldFault;
 pub use instance::{Cut, Instance, InstancePhase, Trace};
 pub use journal::JournalEntry;

@@ -1,5 +1,6 @@
--- What the body of a call that makes or changes a connector says: `{"name":n,"config":{..}}` for a new one, the properties alone for one that is named by the
--- path. A property `name` may be there and must be the connector's; it is always kept, as in Kafka Connect.
+-- What the body of a call that makes or changes a connector says: `{"name":n,"config":{..}}` for a new one, the
+-- properties alone for one that is named by the path. A property `name` may be there and must be the connector's; it
+-- is always kept, as in Kafka Connect.
 use Rattle.std.specs.Prelude.{ℕ, ◌+◌, ◌==◌, Bool, true, false, List, [], ◌∷◌, Option, Some, None, Result, Ok, Err, bytes_eq, option_map, option_and_then, codes, if◌then◌else◌}
 use Rattle.std.specs.Option.{option_map_or}
 use Rattle.std.specs.Ordering.{nat_cmp, match_ordering}

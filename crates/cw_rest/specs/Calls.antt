@@ -1,4 +1,5 @@
--- Which calls of Connect's REST API read, which write and which restart; and which may be answered from a published view of the configs.
+-- Which calls of Connect's REST API read, which write and which restart; and which may be answered from a published
+-- view of the configs.
 use Rattle.std.specs.Prelude.{◌||◌, not, Bool, true, false}
 use Rattle.cw_route.specs.declared.call.Call.{Call}
 use Rattle.cw_route.specs.declared.call.Call.TheVariants.{Refused, Connectors, Create, Info, Delete, Config, PutConfig, Status, Tasks, TaskStatus, Pause, Resume, Stop, Restart, RestartTask, Offsets, Alter, Reset, Plugins}

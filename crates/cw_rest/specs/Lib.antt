@@ -6,3 +6,4 @@ pub mod Bodies
 pub mod Offsets
 pub mod Pages
 pub mod Replies
+pub mod Cases

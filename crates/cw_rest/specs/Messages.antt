@@ -1,5 +1,5 @@
--- The replies that aren't successes: a code, and a message in Connect's form of an error. The first messages of 404, 405 and 409 and that on stopped connectors
--- are Kafka Connect's, the others are this project's own.
+-- The replies that aren't successes: a code, and a message in Connect's form of an error. The first messages of 404,
+-- 405 and 409 and that on stopped connectors are Kafka Connect's, the others are this project's own.
 use Rattle.std.specs.Prelude.{ℕ, List, [], ◌∷◌, ◌++◌, codes, decimal}
 use Rattle.serde_json.specs.Data.{Data, object, member, no_members, number, unsigned, string}
 use Rattle.serde_json.specs.Written.{compact_text}
@@ -23,7 +23,8 @@ empty_reply code = record { code = code; body = [] }
 -- an error
 abbrev pub refusal : ℕ → List ℕ → Reply
 refusal code message = replied code
-    (object (member (codes "error_code") (number (unsigned code)) (member (codes "message") (string message) no_members)))
+    (object (member (codes "error_code") (number (unsigned code))
+    (member (codes "message") (string message) no_members)))
 
 -- the name of a log
 abbrev pub log_text : LogName → List ℕ
@@ -70,7 +71,8 @@ abbrev pub no_status : List ℕ → Reply
 no_status name = refusal 404 (codes "No status found for connector " ++ name)
 
 abbrev pub no_task : TaskId → Reply
-no_task id = refusal 404 (codes "Task " ++ decimal id.index ++ codes " of connector " ++ id.connector ++ codes " not found")
+no_task id = refusal 404 (codes "Task " ++ decimal id.index ++ codes " of connector " ++ id.connector ++
+    codes " not found")
 
 -- what is to be made is there
 abbrev pub already_there : List ℕ → Reply

@@ -1,9 +1,10 @@
--- Which offsets a connector has, and which ones a call alters or resets (KIP-875): those of feeds and sequences for a source, those of topics for a sink.
--- Positions below 2^48, at most 1,000 of them in a call, and that none is named twice, are this project's own.
+-- Which offsets a connector has, and which ones a call alters or resets (KIP-875): those of feeds and sequences for a
+-- source, those of topics for a sink. Positions below 2^48, at most 1,000 of them in a call, and that none is named
+-- twice, are this project's own.
 use Rattle.std.specs.Prelude.{ℕ, ◌^◌, ◌==◌, ◌&&◌, Bool, true, false, not, List, [], ◌∷◌, length, map, nat_le, nat_lt, Option, Some, None, is_some, bytes_eq, option_map, option_and_then, codes, if◌then◌else◌}
 use Rattle.std.specs.Option.{option_map_or}
 use Rattle.std.specs.List.{filter, filter_map, flat_map, fold, list_any}
-use Rattle.std.specs.Ordering.{Ordering}
+use Rattle.std.specs.declared.cmp.Ordering.{Ordering}
 use Rattle.std.specs.BTreeSet.{insert_key}
 use Rattle.serde_json.specs.Data.{Data, null, boolean, number, string, array, object, Items, no_items, item}
 use Rattle.serde_json.specs.Find.{get, as_array}
@@ -86,7 +87,8 @@ pub record Alteration : Type 0 where
 
 -- an element of the list: an object with a partition, an offset and no other member
 abbrev pub alteration_of : Data → Option Alteration
-alteration_of value = option_and_then (λ partition. option_map (λ offset. record { partition = partition; offset = offset })
+alteration_of value = option_and_then (λ partition. option_map
+    (λ offset. record { partition = partition; offset = offset })
     (get (codes "offset") value)) (option_and_then (get (codes "partition")) (where_it (has_members 2) value))
 
 -- what stands for a feed, a sequence or a topic: an object with the members of a partition and no others

@@ -1,5 +1,6 @@
--- What the operations of Connect's REST API write: records of the config topic, and entries of the transaction list where offsets are set (KIP-875). That a
--- connector which is stopped or removed has no task from then on, in the same frame, is this project's own.
+-- What the operations of Connect's REST API write: records of the config topic, and entries of the transaction list
+-- where offsets are set (KIP-875). That a connector which is stopped or removed has no task from then on, in the same
+-- frame, is this project's own.
 use Rattle.std.specs.Prelude.{ℕ, List, [], ◌∷◌, ◌++◌, map, None, Some}
 use Rattle.std.specs.List.{range_with_len}
 use Rattle.cw_types.specs.declared.ids.PartKey.{PartKey}

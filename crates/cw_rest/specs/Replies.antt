@@ -1,4 +1,5 @@
--- What each call of Connect's REST API is answered: the first refusal that holds, in the order in which they stand here, and else the success.
+-- What each call of Connect's REST API is answered: the first refusal that holds, in the order in which they stand
+-- here, and else the success.
 use Rattle.std.specs.Prelude.{ℕ, ◌==◌, Bool, true, false, not, List, [], ◌∷◌, Option, Some, None, is_some, is_none, Result, Ok, Err, option_and_then, unwrap_or, codes, if◌then◌else◌}
 use Rattle.std.specs.Option.{option_map_or}
 use Rattle.cw_types.specs.declared.ids.Epoch.{Epoch}

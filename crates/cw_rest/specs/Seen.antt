@@ -1,5 +1,6 @@
--- What a call of Connect's REST API sees of the cluster: the records of the config topic, the statuses, the transaction list and the feeds. A call that
--- reads sees as much of the config log as the asked worker has read; a call that writes sees all of it.
+-- What a call of Connect's REST API sees of the cluster: the records of the config topic, the statuses, the
+-- transaction list and the feeds. A call that reads sees as much of the config log as the asked worker has read; a
+-- call that writes sees all of it.
 use Rattle.std.specs.Prelude.{ℕ, ◌++◌, Bool, List, [], Option, Some, None, map, length, is_some, nat_lt}
 use Rattle.std.specs.List.{enumerate_from, filter, filter_map, fold}
 use Rattle.std.specs.BTreeSet.{insert_key}
@@ -25,10 +26,12 @@ pub record Seen : Type 0 where
 abbrev pub KeyedValues : Type 0
 KeyedValues = List (ConfigKey × Option ConfigValue)
 
--- the records that keys and values become: each gets the next offset of the log, and as its stamp how long the transaction list was
+-- the records that keys and values become: each gets the next offset of the log, and as its stamp how long the
+-- transaction list was
 abbrev pub records_behind : List ConfigRecord → (stamp : ℕ) → KeyedValues → List ConfigRecord
 records_behind before stamp values =
-    map (λ r. record { offset = r.0; stamp = stamp; key = r.1.0; value = r.1.1 }) (enumerate_from (end_of before) values)
+    map (λ r. record { offset = r.0; stamp = stamp; key = r.1.0; value = r.1.1 })
+    (enumerate_from (end_of before) values)
 
 -- what is seen once these are written
 abbrev pub behind_write : KeyedValues → Seen → Seen
