@@ -347,13 +347,13 @@ offset_at offset to = record {
 abbrev pub twice_committed : Small
 twice_committed = record (with_list (Bump (tid_s 0) ∷ Commit (tag_s 1) 1 (span_s 0 2 ∷ []) ∷
     Commit second_tag 1 (span_s 2 3 ∷ []) ∷ []) empty_cluster) {
-  offsets = record {
-    frames = Records (tag_s 1) (offset_at 0 2 ∷ []) ∷ Mark (record { tag = tag_s 1; committed = true }) ∷
-    Records second_tag (offset_at 1 3 ∷ []) ∷
-        Mark (record { tag = second_tag; committed = true }) ∷ [];
-    side = 1;
-  };
-}
+      offsets = record {
+        frames = Records (tag_s 1) (offset_at 0 2 ∷ []) ∷ Mark (record { tag = tag_s 1; committed = true }) ∷
+            Records second_tag (offset_at 1 3 ∷ []) ∷
+            Mark (record { tag = second_tag; committed = true }) ∷ [];
+        side = 1;
+      };
+    }
 
 -- a later instance of the task is verified behind these commits
 abbrev pub verified_later : Small

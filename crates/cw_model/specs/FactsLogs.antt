@@ -113,7 +113,6 @@ pub record AreWritten (s : Cluster) : Type 0 where
   pub txn : AllByRecursion AreEntries s.txn
   pub batches : AllByRecursion IsDataEntry s.batches
 
-
 -- the facts of the logs
 pub record LogFacts (setting : Setting) (s : Cluster) : Type 0 where
   -- each record that stands is read: a compaction, which goes by keys alone, needs it

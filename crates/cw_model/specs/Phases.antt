@@ -38,15 +38,15 @@ row working starting verified fetched in_transaction cut failed ended = record {
 -- the table: working, starting, verified, fetched, in a transaction, with a cut, failed, ended
 abbrev pub phase_row : InstancePhase → PhaseRow
 phase_row Connector = row false false false false false false false false
-phase_row New       = row true  false false false false false false false
-phase_row Inited    = row true  true  false false false false false false
-phase_row Verified  = row true  true  true  false false false false false
-phase_row Polling   = row true  false true  true  false false false false
-phase_row Produced  = row true  false true  true  true  true  false false
-phase_row Offered   = row true  false true  true  true  true  false false
-phase_row Delivered = row true  false true  true  false true  false false
-phase_row Failed    = row false false false false false false true  false
-phase_row Ended     = row false false false false false false false true
+phase_row New = row true false false false false false false false
+phase_row Inited = row true true false false false false false false
+phase_row Verified = row true true true false false false false false
+phase_row Polling = row true false true true false false false false
+phase_row Produced = row true false true true true true false false
+phase_row Offered = row true false true true true true false false
+phase_row Delivered = row true false true true false true false false
+phase_row Failed = row false false false false false false true false
+phase_row Ended = row false false false false false false false true
 
 abbrev pub is_working : InstancePhase → Bool
 is_working phase = (phase_row phase).working

@@ -207,7 +207,7 @@ pub record Proposing : Type 0 where
 abbrev pub propose_applies : ℕ → Cluster → Option Proposing
 propose_applies w s = option_map_or
     (λ leader. option_map (λ name. record { leader = leader; connector = name })
-        (find (needs_tasks (seen w s)) (filter_map connector_in (held w s)))) (ready w s) None
+    (find (needs_tasks (seen w s)) (filter_map connector_in (held w s)))) (ready w s) None
 
 -- the tasks are written, or, once they are, their commit
 abbrev pub proposes : ℕ → Cluster → Proposing → Answer Tick

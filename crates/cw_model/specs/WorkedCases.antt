@@ -341,8 +341,11 @@ all_statuses = running_status 0 (Connector name) ∷ running_status 1 (TaskItem 
 -- the task committed all of its feed, and the transaction is marked
 abbrev pub committed : Small
 committed = record started {
-  offsets = record { frames = Records first_tag (offset_applied ∷ []) ∷
-      OffsetMark (record { tag = first_tag; committed = true }) ∷ []; side = 1 };
+  offsets = record {
+    frames = Records first_tag (offset_applied ∷ []) ∷
+        OffsetMark (record { tag = first_tag; committed = true }) ∷ [];
+    side = 1;
+  };
   status = record { frames = map (λ r. status_applied r ∷ []) all_statuses; side = 1 };
   txn = map (λ entry. entry ∷ []) all_entries;
   batches = InBatch batch ∷ DataMark first_tag true ∷ [];

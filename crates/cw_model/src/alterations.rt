@@ -43,5 +43,5 @@ pub fn config_log_without_room_is_full()
         s.closed ≡ None → (row_of w s).live ≡ true → (epoch_in (row_of w s).lead == last_epoch Lead s) ≡ true →
         has_room (config_length s) (frame_of (config_body (stamped records s))) ≡ false →
         append_config w records s ≡
-            refused (Full Config (config_length s) (frame_of (config_body (stamped records s)))) s }
+        refused (Full Config (config_length s) (frame_of (config_body (stamped records s)))) s }
 {}

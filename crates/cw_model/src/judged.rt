@@ -73,9 +73,11 @@ pub fn deaf_worker_is_idle()
 
 /// The first worker joins, closes and plans the first round, and leads.
 pub fn first_worker_leads()
-    ensures { plays beginning empty_cluster ≡
-        (codes "worker 0" ∷ codes "join 1" ∷ codes "close 1" ∷ codes "plan 1" ∷ codes "sync 1" ∷
-            codes "lead 1" ∷ [], led) }
+    ensures { plays beginning empty_cluster ≡ (
+      codes "worker 0" ∷ codes "join 1" ∷ codes "close 1" ∷ codes "plan 1" ∷ codes "sync 1" ∷
+          codes "lead 1" ∷ [],
+      led,
+    ) }
 {}
 
 /// A connector is created, planned and started; its task is proposed, committed, planned, and started once the fence is

@@ -57,10 +57,10 @@ tag_a = record { number = 0; epoch = record { 0 = 1 }; tid = TaskTid task_a }
 abbrev pub at_work : Seen
 at_work = record (behind_write (config_values name_a config_a ++ fenced_values) nothing_yet) {
   statuses =
-    record { offset = 0; item = Connector name_a; value = running } ∷
-    record { offset = 1; item = Task task_a; value = running } ∷ [];
+      record { offset = 0; item = Connector name_a; value = running } ∷
+      record { offset = 1; item = Task task_a; value = running } ∷ [];
   entries =
-    Bump Lead ∷ Bump (TaskTid task_a) ∷ Commit tag_a 1 (record { part = part_a; from = 0; to = 96 } ∷ []) ∷ [];
+      Bump Lead ∷ Bump (TaskTid task_a) ∷ Commit tag_a 1 (record { part = part_a; from = 0; to = 96 } ∷ []) ∷ [];
 }
 
 -- it is stopped
