@@ -10,7 +10,7 @@ use Rattle.cw_model.specs.Updates.{changes_row, without_lead}
 use Rattle.cw_model.specs.Refusals.{behind_refusal, StaysOrLosesLead}
 
 -- a refusal leaves what is said of it
-refused-stays : {J A : Type 0} (w : ℕ) (s : Cluster J) (why : WorldFault) → StaysOrLosesLead {J = J} {A = A} w s (refused why (behind_refusal w why s))
+refused-stays : {A : Type 0} (w : ℕ) (s : Cluster) (why : WorldFault) → StaysOrLosesLead {A = A} w s (refused why (behind_refusal w why s))
 refused-stays w s why fault same = let one : why ≡ fault = cc in subst (λ f. behind_refusal w why s ≡ behind_refusal w f s) one refl
 
 -- what is done isn't refused
@@ -18,11 +18,11 @@ unlike : {A : Type 0} (answer : A) (fault : WorldFault) → Ok answer ≡ Err fa
 unlike answer fault same = cc
 
 -- an event that is done isn't refused
-answered-stays : {J A : Type 0} (w : ℕ) (s t : Cluster J) (answer : A) → StaysOrLosesLead w s (answered answer t)
+answered-stays : {A : Type 0} (w : ℕ) (s t : Cluster) (answer : A) → StaysOrLosesLead w s (answered answer t)
 answered-stays w s t answer fault same = absurd (unlike answer fault same)
 
 -- a leader's event that is refused where its generation isn't the newest, or a log is full
-pub append_fence-stays : {J A : Type 0} (w : ℕ) (s t : Cluster J) (answer : A) (closed : Option (DiskName × ℕ)) (live leads newest room : Bool)
+pub append_fence-stays : {A : Type 0} (w : ℕ) (s t : Cluster) (answer : A) (closed : Option (DiskName × ℕ)) (live leads newest room : Bool)
     (own last generation current size frame : ℕ) (log : LogName) → StaysOrLosesLead w s (unless_closed closed
     (if live then (if leads then (if newest then (if room then answered answer t else refused (Full log size frame) s)
     else refused (StaleGeneration generation current) s) else refused (Fenced own last) (changes_row w without_lead s)) else refused (Dead w) s) s)

@@ -65,23 +65,23 @@ records_staying-le entries log (Records tag records) = omega (
 records_staying-le entries log (Mark mark) = omega arith
 
 -- an event with which a log has no more bytes, unless it is refused
-worn-le : {J A : Type 0} (size : Cluster J → ℕ) (s : Cluster J) (b : Bool) (done other : Answer J A) → size done.1 ≤ size s → size other.1 ≤ size s →
+worn-le : {A : Type 0} (size : Cluster → ℕ) (s : Cluster) (b : Bool) (done other : Answer A) → size done.1 ≤ size s → size other.1 ≤ size s →
     size (if b then done else other).1 ≤ size s
 worn-le size s true done other below same = below
 worn-le size s false done other below same = same
 
-open-le : {J A : Type 0} (size : Cluster J → ℕ) (s : Cluster J) (closed : Option (DiskName × ℕ)) (done : Answer J A) → size done.1 ≤ size s →
+open-le : {A : Type 0} (size : Cluster → ℕ) (s : Cluster) (closed : Option (DiskName × ℕ)) (done : Answer A) → size done.1 ≤ size s →
     size (unless_closed closed done s).1 ≤ size s
 open-le size s None done below = below
 open-le size s (Some fault) done below = omega arith
 
 -- a compaction, whose log has no more bytes than before
-compact-le : {J A : Type 0} (size : Cluster J → ℕ) (log : LogName) (n side : ℕ) (answer : A) (s t : Cluster J) → size t ≤ size s →
+compact-le : {A : Type 0} (size : Cluster → ℕ) (log : LogName) (n side : ℕ) (answer : A) (s t : Cluster) → size t ≤ size s →
     size (unless_closed s.closed (unless_worn log n side (answered answer t) s) s).1 ≤ size s
 compact-le size log n side answer s t below = open-le size s s.closed (unless_worn log n side (answered answer t) s)
     (worn-le size s (nat_lt side (2 ^ 64 - 1)) (answered answer t) (refused (Full log n 0) s) below (omega arith))
 
-pub config_length-compact : {J : Type 0} (s : Cluster J) → config_length (compact Config s).1 ≤ config_length s
+pub config_length-compact : (s : Cluster) → config_length (compact Config s).1 ≤ config_length s
 config_length-compact s =
     let records : List Applied = joined s.config.frames in
     let stays : Applied → Bool = config_stays (take (clean_point (filter_map keyed records)) records) in
@@ -90,7 +90,7 @@ config_length-compact s =
     (record s { config = on_other_side frames s.config })
     (length_of-le records_bytes (filter stays) (records_bytes-filter-le stays) (λ frame. not (length frame == 0)) s.config.frames)
 
-pub offsets_length-compact : {J : Type 0} (s : Cluster J) → offsets_length (compact Offsets s).1 ≤ offsets_length s
+pub offsets_length-compact : (s : Cluster) → offsets_length (compact Offsets s).1 ≤ offsets_length s
 offsets_length-compact s =
     let kept : OffsetEntry → OffsetEntry = records_staying s.entries s.offsets.frames in
     let log : List OffsetEntry = map kept s.offsets.frames in
@@ -101,7 +101,7 @@ offsets_length-compact s =
     (record s { offsets = on_other_side frames s.offsets })
     (length_of-le offset_body kept (records_staying-le s.entries s.offsets.frames) stays s.offsets.frames)
 
-pub status_length-compact : {J : Type 0} (s : Cluster J) → status_length (compact Status s).1 ≤ status_length s
+pub status_length-compact : (s : Cluster) → status_length (compact Status s).1 ≤ status_length s
 status_length-compact s =
     let stays : Applied → Bool = is_last (joined s.status.frames) in
     let frames : List (List Applied) = compact_statuses s.status.frames in

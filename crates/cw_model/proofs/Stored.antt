@@ -36,7 +36,7 @@ AreRead-one stored f g a b =
     λ i. record { config = config i; offsets = offsets i; status = status i; txn = txn i; batches = batches i }
 
 -- each field of a state is what is stored, or what is read of that, or that of a cluster without workers
-pub StandFor-one : {J : Type 0} (stored : Stored) (s t : Cluster J) → StandFor stored s → StandFor stored t → s ≡ t
+pub StandFor-one : (stored : Stored) (s t : Cluster) → StandFor stored s → StandFor stored t → s ≡ t
 StandFor-one stored s t a b =
     let frames : a.frames ≡ b.frames = AreRead-one stored a.frames b.frames a.read b.read in
     let config : s.config ≡ t.config = a.holds.config ∙ ap (λ f. on_side_of stored.config f.config) frames ∙ sym b.holds.config in

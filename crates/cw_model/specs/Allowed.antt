@@ -1,5 +1,6 @@
--- What may stand where in the logs, so that they may be opened: each record is judged by what stands before it in its log, and each transaction by the
--- transaction list (KIP-98, KIP-618). That opening judges all of it is this project's own.
+-- What may stand where in the logs, so that they may be opened: each record is judged by what stands before it in its
+-- log, and each transaction by the transaction list (KIP-98, KIP-618). That opening judges all of it is this project's
+-- own.
 use Rattle.std.specs.Prelude.{◌≡◌, ℕ, ◌≤◌, ◌<◌, Bool, true, false, List, [], ◌∷◌, ◌++◌, option_map, Option, Some, None, IsSome}
 use Rattle.std.specs.Bool.{⊤}
 use Rattle.std.specs.Option.{IsSomeAnd}
@@ -17,14 +18,9 @@ use Rattle.cw_data.specs.declared.entry.Batch.{Batch}
 use Rattle.cw_data.specs.declared.entry.DataEntry.{DataEntry}
 use Rattle.cw_data.specs.declared.entry.DataEntry.TheVariants as entry
 use Rattle.cw_feed.specs.Yield.{IsLine}
-use Rattle.cw_model.specs.Lookups.{next_after, offset_records, offset_tag, offset_mark}
+use Rattle.cw_model.specs.Lookups.{EachFrom, next_after, offset_records, offset_tag, offset_mark}
 use Rattle.cw_model.specs.Bodies.{status_in}
 use Rattle.cw_model.specs.Committed.{batch_in, batches_of, is_batch_of}
-
--- a fact of each member of a list and all those before it
-abbrev pub EachFrom : {A : Type 0} → (List A → A → Type 0) → List A → List A → Type 0
-EachFrom P before [] = ⊤
-EachFrom P before (x ∷ xs) = P before x × EachFrom P (before ++ x ∷ []) xs
 
 -- ---- the status log
 
@@ -39,8 +35,8 @@ pub record IsAllowedStatus (before : List Applied) (r : Applied) : Type 0 where
 abbrev pub IsKnown : List Entry → Tag → Type 0
 IsKnown entries tag = tag.epoch.0 ≤ epoch_of tag.tid entries
 
--- a marker of a transaction that stands in its log and has no marker there yet: it says commit just where that is committed, and abort only where its
--- producer has a later epoch (KIP-98)
+-- a marker of a transaction that stands in its log and has no marker there yet: it says commit just where that is
+-- committed, and abort only where its producer has a later epoch (KIP-98)
 pub record IsAllowedMark (entries : List Entry) (there marked : List Tag) (tag : Tag) (committed : Bool) : Type 0 where
   pub known : IsKnown entries tag
   pub stands : list_any (same_tag tag) there ≡ true
@@ -60,10 +56,22 @@ pub record IsAllowedOffset (before : List Applied) (r : Applied) : Type 0 where
   pub above : next_after before ≤ r.offset
   pub grammar : IsOffsetOf r.key r.value
 
+-- whether a transaction is marked in the offset log
+abbrev pub is_marked : Tag → List OffsetEntry → Bool
+is_marked tag log = list_any (same_tag tag) (filter_map offset_mark log)
+
+-- records of a transaction may stand behind these entries, none of which marks it
+pub record AreAllowedRecords
+    (entries : List Entry) (before : List OffsetEntry) (tag : Tag) (records : List Applied) : Type 0 where
+  pub known : IsKnown entries tag
+  pub unmarked : is_marked tag before ≡ false
+  pub each : EachFrom IsAllowedOffset (flat_map offset_records before) records
+
 -- an entry of the offset log may stand behind these
 abbrev pub IsAllowedStored : List Entry → List OffsetEntry → OffsetEntry → Type 0
-IsAllowedStored entries before (offset.Records tag records) = IsKnown entries tag × EachFrom IsAllowedOffset (flat_map offset_records before) records
-IsAllowedStored entries before (offset.Mark mark) = IsAllowedMark entries (filter_map offset_tag before) (filter_map offset_mark before) mark.tag mark.committed
+IsAllowedStored entries before (offset.Records tag records) = AreAllowedRecords entries before tag records
+IsAllowedStored entries before (offset.Mark mark) =
+    IsAllowedMark entries (filter_map offset_tag before) (filter_map offset_mark before) mark.tag mark.committed
 
 -- ---- the data log
 
@@ -82,4 +90,5 @@ pub record IsAllowedBatch (entries : List Entry) (before : List DataEntry) (batc
 abbrev pub IsAllowedData : List Entry → List DataEntry → DataEntry → Type 0
 IsAllowedData entries before (entry.Batch batch) = IsAllowedBatch entries before batch
 IsAllowedData entries before (entry.Mark tag committed) =
-    IsAllowedMark entries (filter_map (λ e. option_map (λ batch. batch.tag) (batch_in e)) before) (filter_map data_mark before) tag committed
+    IsAllowedMark entries (filter_map (λ e. option_map (λ batch. batch.tag) (batch_in e)) before)
+    (filter_map data_mark before) tag committed

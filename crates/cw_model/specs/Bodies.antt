@@ -1,5 +1,5 @@
--- How records are written and read, how many bytes each log has, and when it is full: a log has at most 2^28 bytes, and each frame is its
--- body and five bytes more. This project's own format.
+-- How records are written and read, how many bytes each log has, and when it is full: a log has at most 2^28 bytes,
+-- and each frame is its body and five bytes more. This project's own format.
 use Rattle.std.specs.Prelude.{ℕ, ◌+◌, ◌^◌, Bool, List, Option, Some, None, Result, Ok, Err, map, length, nat_le, option_map, option_and_then}
 use Rattle.std.specs.List.{filter_map}
 use Rattle.cw_types.specs.declared.ids.Item.{Item}
@@ -21,7 +21,12 @@ use Rattle.cw_model.specs.Lookups.{joined}
 
 -- a record of the config log as it is written
 abbrev pub config_applied : ConfigRecord → Applied
-config_applied r = record { offset = r.offset; stamp = r.stamp; key = config_key_text r.key; value = option_map config_text r.value }
+config_applied r = record {
+  offset = r.offset;
+  stamp = r.stamp;
+  key = config_key_text r.key;
+  value = option_map config_text r.value;
+}
 
 -- a body of the config log
 abbrev pub config_body : List ConfigRecord → List ℕ
@@ -29,13 +34,19 @@ config_body records = records_bytes (map config_applied records)
 
 -- a record of the status log as it is written
 abbrev pub status_applied : StampedStatus → Applied
-status_applied r = record { offset = r.status.offset; stamp = r.stamp; key = status_key r.status.item; value = Some (status_text r.status.value) }
+status_applied r = record {
+  offset = r.status.offset;
+  stamp = r.stamp;
+  key = status_key r.status.item;
+  value = Some (status_text r.status.value);
+}
 
 -- a body of the status log
 abbrev pub status_body : List StampedStatus → List ℕ
 status_body records = records_bytes (map status_applied records)
 
--- the record of the config log that fields are, where key and value are in its grammar; they may be spelled otherwise than they are written
+-- the record of the config log that fields are, where key and value are in its grammar; they may be spelled otherwise
+-- than they are written
 abbrev pub config_in : Applied → Option ConfigRecord
 config_in a = record_of a.offset a.stamp a.key a.value
 
@@ -45,7 +56,10 @@ configs_in frames = filter_map config_in (joined frames)
 
 -- the status of a key and a value that were read
 abbrev pub status_with : Applied → Result (Item × StatusValue) KeyFault → Option StampedStatus
-status_with a (Ok read) = Some (record { stamp = a.stamp; status = record { offset = a.offset; item = read.0; value = read.1 } })
+status_with a (Ok read) = Some (record {
+  stamp = a.stamp;
+  status = record { offset = a.offset; item = read.0; value = read.1 };
+})
 status_with a (Err fault) = None
 
 -- the record of the status log that fields are
@@ -57,23 +71,23 @@ abbrev pub statuses_in : List (List Applied) → List StampedStatus
 statuses_in frames = filter_map status_in (joined frames)
 
 -- how many bytes the config log has, as its records are spelled there
-abbrev pub config_length : {J : Type 0} → Cluster J → ℕ
+abbrev pub config_length : Cluster → ℕ
 config_length s = length_of (map records_bytes s.config.frames)
 
 -- how many bytes the offset log has
-abbrev pub offsets_length : {J : Type 0} → Cluster J → ℕ
+abbrev pub offsets_length : Cluster → ℕ
 offsets_length s = length_of (map offset_body s.offsets.frames)
 
 -- how many bytes the status log has
-abbrev pub status_length : {J : Type 0} → Cluster J → ℕ
+abbrev pub status_length : Cluster → ℕ
 status_length s = length_of (map records_bytes s.status.frames)
 
 -- how many bytes the transaction log has
-abbrev pub txn_length : {J : Type 0} → Cluster J → ℕ
+abbrev pub txn_length : Cluster → ℕ
 txn_length s = length_of (map entries_bytes s.txn)
 
 -- how many bytes the data log has
-abbrev pub data_length : {J : Type 0} → Cluster J → ℕ
+abbrev pub data_length : Cluster → ℕ
 data_length s = length_of (map data_body s.batches)
 
 -- how many bytes the frame of a body has

@@ -54,7 +54,7 @@ use Rattle.cw_model.specs.EventsLeading.{claim_lead, append_config, fence_one, a
 
 -- a cluster whose journal has numbers for its calls
 abbrev pub Small : Type 0
-Small = Cluster ℕ
+Small = Cluster
 
 -- nothing stands in a log, and no worker is there
 abbrev pub empty_cluster : Small
@@ -82,11 +82,11 @@ abbrev pub small_setting : Setting
 small_setting = record { group = []; delay = 300; feeds = []; agreed = true }
 
 -- the state behind an event
-abbrev pub behind : {A : Type 0} → (Small → Answer ℕ A) → Small → Small
+abbrev pub behind : {A : Type 0} → (Small → Answer A) → Small → Small
 behind event s = (event s).1
 
 -- what an event answers
-abbrev pub answer_of : {A : Type 0} → (Small → Answer ℕ A) → Small → Result A WorldFault
+abbrev pub answer_of : {A : Type 0} → (Small → Answer A) → Small → Result A WorldFault
 answer_of event s = (event s).0
 
 -- the state behind several steps
@@ -127,7 +127,8 @@ span_s from to = record { part = part_s 0; from = from; to = to }
 
 -- a record of the config log, written before any transaction
 abbrev pub written : ℕ → ConfigKey → ConfigValue → ConfigRecord
-written offset record_key record_value = record { offset = offset; stamp = 0; key = record_key; value = Some record_value }
+written offset record_key record_value =
+    record { offset = offset; stamp = 0; key = record_key; value = Some record_value }
 
 -- the config of `s`
 abbrev pub configured_s : ℕ → ConfigRecord
@@ -143,7 +144,10 @@ fenced_s offset count = written offset (key.Fencing name_s) (value.Fencing count
 
 -- these records stand in the config log, each in a frame of its own
 abbrev pub with_records : List ConfigRecord → Small → Small
-with_records records s = record s { config = record { frames = map (λ r. config_applied r ∷ []) records; side = 1 }; configs = records }
+with_records records s = record s {
+  config = record { frames = map (λ r. config_applied r ∷ []) records; side = 1 };
+  configs = records;
+}
 
 -- these entries stand in the transaction list, each in a frame of its own
 abbrev pub with_list : List Entry → Small → Small
@@ -155,7 +159,14 @@ leader_row prefix = record new_row { prefix = prefix; lead = Some (epoch 1) }
 
 -- a task of one sequence of three records
 abbrev pub spec_s : ℕ → TaskSpec
-spec_s index = record { class = SequenceSource; parts = part_s index ∷ []; topic = Some name_s; file = None; batch = 2; count = 3 }
+spec_s index = record {
+  class = SequenceSource;
+  parts = part_s index ∷ [];
+  topic = Some name_s;
+  file = None;
+  batch = 2;
+  count = 3;
+}
 
 -- an instance of a task at worker 0, with its first epoch, which has taken its first two records
 abbrev pub instance_s : InstancePhase → ℕ → Instance
@@ -174,8 +185,8 @@ instance_s phase generation = record {
   reported = None;
 }
 
--- `s` has an older task set, committed at offset 1 and fenced, and a newer one, committed at offset 3, which isn't fenced; worker 0
--- leads, and an instance of a task of some generation is in some phase
+-- `s` has an older task set, committed at offset 1 and fenced, and a newer one, committed at offset 3, which isn't
+-- fenced; worker 0 leads, and an instance of a task of some generation is in some phase
 abbrev pub unfenced : InstancePhase → ℕ → Small
 unfenced phase generation = record (with_list (Bump Lead ∷ Bump (tid_s 0) ∷ [])
     (with_records (configured_s 0 ∷ committed_s 1 1 ∷ fenced_s 2 1 ∷ committed_s 3 1 ∷ []) empty_cluster)) {
@@ -194,12 +205,14 @@ round_of_one = behind (join 0) ∷ behind (close_round 0) ∷ behind (store_plan
 -- workers 0 and 1: both join, worker 0 closes the round and plans, and both are told their shares
 abbrev pub round_of_two : List (Small → Small)
 round_of_two =
-    behind (join 1) ∷ behind (join 0) ∷ behind (close_round 0) ∷ behind (store_plan 0) ∷ behind (sync 0) ∷ behind (sync 1) ∷ []
+    behind (join 1) ∷ behind (join 0) ∷ behind (close_round 0) ∷ behind (store_plan 0) ∷ behind (sync 0) ∷
+    behind (sync 1) ∷ []
 
 -- worker 0 runs the connector as instance 0, and its tasks as instances 1 and 2
 abbrev pub at_one_worker : Small
 at_one_worker = played
-    (behind spawn ∷ behind (read_config 0) ∷ round_of_one ++ behind (start_item 0 connector_s) ∷ behind (start_item 0 (task_s 0)) ∷ behind (start_item 0 (task_s 1)) ∷ [])
+    (behind spawn ∷ behind (read_config 0) ∷ round_of_one ++ behind (start_item 0 connector_s) ∷
+    behind (start_item 0 (task_s 0)) ∷ behind (start_item 0 (task_s 1)) ∷ [])
     (with_records two_tasks empty_cluster)
 
 -- then worker 1 comes, and there is a round
@@ -245,7 +258,11 @@ altered_to to = behind (set_offsets 0 name_s (offset_set to)) stopped
 
 -- the last record of the config log has the greatest offset that there is
 abbrev pub out_of_offsets : Small
-out_of_offsets = record (with_records (configured_s (2 ^ 64 - 1) ∷ []) empty_cluster) { rows = leader_row 1 ∷ []; txn = (Bump Lead ∷ []) ∷ []; entries = Bump Lead ∷ [] }
+out_of_offsets = record (with_records (configured_s (2 ^ 64 - 1) ∷ []) empty_cluster) {
+  rows = leader_row 1 ∷ [];
+  txn = (Bump Lead ∷ []) ∷ [];
+  entries = Bump Lead ∷ [];
+}
 
 -- `s` has one task that polls its sequence as instance 0; worker 0 leads
 abbrev pub polling : Small
@@ -294,12 +311,16 @@ task_config_s offset index = written offset (key.Task (record { connector = name
 -- the config log of a connector that had three tasks and now has one
 abbrev pub two_task_sets : List (List ConfigRecord)
 two_task_sets =
-    (configured_s 0 ∷ []) ∷ (task_config_s 1 0 ∷ task_config_s 2 1 ∷ task_config_s 3 2 ∷ []) ∷ (committed_s 4 3 ∷ []) ∷ (fenced_s 5 3 ∷ []) ∷
+    (configured_s 0 ∷ []) ∷ (task_config_s 1 0 ∷ task_config_s 2 1 ∷ task_config_s 3 2 ∷ []) ∷
+    (committed_s 4 3 ∷ []) ∷ (fenced_s 5 3 ∷ []) ∷
     (configured_s 6 ∷ []) ∷ (task_config_s 7 0 ∷ []) ∷ (committed_s 8 1 ∷ []) ∷ (fenced_s 9 1 ∷ []) ∷ []
 
 -- a cluster with this config log
 abbrev pub with_frames : List (List ConfigRecord) → Small
-with_frames frames = record empty_cluster { config = record { frames = map (map config_applied) frames; side = 1 }; configs = joined frames }
+with_frames frames = record empty_cluster {
+  config = record { frames = map (map config_applied) frames; side = 1 };
+  configs = joined frames;
+}
 
 -- the offsets of what stands in the config log
 abbrev pub offsets_in : Small → List (List ℕ)
@@ -315,21 +336,30 @@ second_tag = record (tag_s 1) { number = 1 }
 
 -- an offset record of the first part of `s`
 abbrev pub offset_at : (offset to : ℕ) → Applied
-offset_at offset to = record { offset = offset; stamp = 2; key = part_text (part_s 0); value = Some (offset_text (part_s 0) to) }
+offset_at offset to = record {
+  offset = offset;
+  stamp = 2;
+  key = part_text (part_s 0);
+  value = Some (offset_text (part_s 0) to);
+}
 
 -- the task has committed two transactions, and both are marked in the offset log
 abbrev pub twice_committed : Small
-twice_committed = record (with_list (Bump (tid_s 0) ∷ Commit (tag_s 1) 1 (span_s 0 2 ∷ []) ∷ Commit second_tag 1 (span_s 2 3 ∷ []) ∷ []) empty_cluster) {
-  offsets = record {
-    frames = Records (tag_s 1) (offset_at 0 2 ∷ []) ∷ Mark (record { tag = tag_s 1; committed = true }) ∷ Records second_tag (offset_at 1 3 ∷ []) ∷
-        Mark (record { tag = second_tag; committed = true }) ∷ [];
-    side = 1;
-  };
-}
+twice_committed = record (with_list (Bump (tid_s 0) ∷ Commit (tag_s 1) 1 (span_s 0 2 ∷ []) ∷
+    Commit second_tag 1 (span_s 2 3 ∷ []) ∷ []) empty_cluster) {
+      offsets = record {
+        frames = Records (tag_s 1) (offset_at 0 2 ∷ []) ∷ Mark (record { tag = tag_s 1; committed = true }) ∷
+            Records second_tag (offset_at 1 3 ∷ []) ∷
+            Mark (record { tag = second_tag; committed = true }) ∷ [];
+        side = 1;
+      };
+    }
 
 -- a later instance of the task is verified behind these commits
 abbrev pub verified_later : Small
-verified_later = record twice_committed { instances = record (instance_s Verified 1) { positions = []; last = None; cut = None } ∷ [] }
+verified_later = record twice_committed {
+  instances = record (instance_s Verified 1) { positions = []; last = None; cut = None } ∷ [];
+}
 
 -- then that worker claims the lead
 abbrev pub led_by_another : Small
@@ -356,7 +386,7 @@ abbrev pub script_begun_again : Small
 script_begun_again = behind (raw_init 0) script_begun
 
 -- a script's producer commits part 0 up to 5 under an epoch
-abbrev pub commit_five : ℕ → Small → Answer ℕ (List Span)
+abbrev pub commit_five : ℕ → Small → Answer (List Span)
 commit_five n s = raw_commit 0 (epoch n) ((0, 5) ∷ []) s
 
 -- a feed `f`, whose last line has no end
@@ -365,7 +395,9 @@ feed_f = (102 ∷ [], codes "one" ++ 10 ∷ codes "two") ∷ []
 
 -- a task that reads that feed from its beginning
 abbrev pub file_task : Instance
-file_task = record (instance_s Polling 1) { task = Some (record (spec_s 0) { class = FileStreamSource; parts = File name_s (102 ∷ []) ∷ [] }) }
+file_task = record (instance_s Polling 1) {
+  task = Some (record (spec_s 0) { class = FileStreamSource; parts = File name_s (102 ∷ []) ∷ [] });
+}
 
 -- the records of the status log
 abbrev pub status_records : Small → List StatusRecord
@@ -373,7 +405,8 @@ status_records s = map (λ r. r.status) s.statuses
 
 -- the task `s`-0 is reported, fails as fenced, and is reported again
 abbrev pub failed_then_reported : Small
-failed_then_reported = played (behind (put_status 0 (task_s 0)) ∷ behind (fail 0 (Fenced 1 2)) ∷ behind (put_status 0 (task_s 0)) ∷ []) polling
+failed_then_reported = played (behind (put_status 0 (task_s 0)) ∷ behind (fail 0 (Fenced 1 2)) ∷
+    behind (put_status 0 (task_s 0)) ∷ []) polling
 
 -- a target state as an older version spells it: without `state.v2`, with a blank, and with a member that nobody reads
 abbrev pub older_target : Applied
@@ -381,12 +414,14 @@ older_target = record {
   offset = 0;
   stamp = 0;
   key = codes "target-state-s";
-  value = Some (123 ∷ 34 ∷ codes "by" ++ 34 ∷ 58 ∷ 49 ∷ 44 ∷ 32 ∷ 34 ∷ codes "state" ++ 34 ∷ 58 ∷ 34 ∷ codes "STOPPED" ++ 34 ∷ 125 ∷ []);
+  value = Some (123 ∷ 34 ∷ codes "by" ++ 34 ∷ 58 ∷ 49 ∷ 44 ∷ 32 ∷ 34 ∷ codes "state" ++ 34 ∷ 58 ∷ 34 ∷
+      codes "STOPPED" ++ 34 ∷ 125 ∷ []);
 }
 
 -- a log was opened that has such a record twice, in one frame
 abbrev pub opened_older : Small
 opened_older = record empty_cluster {
   config = record { frames = (older_target ∷ record older_target { offset = 1 } ∷ []) ∷ []; side = 1 };
-  configs = written 0 (key.Target name_s) (value.Target Stopped) ∷ written 1 (key.Target name_s) (value.Target Stopped) ∷ [];
+  configs = written 0 (key.Target name_s) (value.Target Stopped) ∷
+      written 1 (key.Target name_s) (value.Target Stopped) ∷ [];
 }

@@ -1,5 +1,5 @@
--- What is committed of a source's part: the records of the transactions that were committed since its offset was last set, one after the other
--- (KIP-618: records and offsets are committed together; KIP-875: offsets are set).
+-- What is committed of a source's part: the records of the transactions that were committed since its offset was last
+-- set, one after the other (KIP-618: records and offsets are committed together; KIP-875: offsets are set).
 use Rattle.std.specs.Prelude.{◌≡◌, ℕ, ◌&&◌, Bool, true, false, List, [], Option, Some, None, is_some, if◌then◌else◌}
 use Rattle.std.specs.Option.{option_map_or}
 use Rattle.std.specs.List.{find, filter_map, flat_map, list_any, after_last, AllByRecursion}
@@ -49,7 +49,8 @@ sets_part part (Set tid epoch list) = list_any (λ set. same_part part set.part)
 -- the transaction of a task that an entry commits with a span of a part
 abbrev pub tag_committing : PartKey → Entry → Option Tag
 tag_committing part (Bump tid) = None
-tag_committing part (Commit tag generation spans) = if is_task tag.tid && list_any (is_span_of part) spans then Some tag else None
+tag_committing part (Commit tag generation spans) =
+    if is_task tag.tid && list_any (is_span_of part) spans then Some tag else None
 tag_committing part (Set tid epoch list) = None
 
 -- the transactions that tasks committed of a part behind its last set, in their order
@@ -66,9 +67,10 @@ committed_records part entries log = flat_map (values_of part log) (tags_of part
 
 -- a batch of a source's part, once it is committed, is what the feeds yield
 abbrev pub BatchAgrees : Files → List Entry → Batch → Type 0
-BatchAgrees feeds entries batch = IsOfSource batch.part → is_committed batch.tag entries ≡ true → Yield feeds batch.part batch.from batch.to batch.values
+BatchAgrees feeds entries batch = IsOfSource batch.part → is_committed batch.tag entries ≡ true →
+    Yield feeds batch.part batch.from batch.to batch.values
 
--- the feeds agree with what was committed: they are those of which these records were read (this project's own premise, since feeds may be changed
--- between two runs)
+-- the feeds agree with what was committed: they are those of which these records were read (this project's own
+-- premise, since feeds may be changed between two runs)
 abbrev pub Agrees : Files → List Entry → List DataEntry → Type 0
 Agrees feeds entries log = AllByRecursion (BatchAgrees feeds entries) (batches_of log)

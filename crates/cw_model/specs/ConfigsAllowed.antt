@@ -1,5 +1,6 @@
--- Which records may stand behind others in the config log (Connect's config topic): a config is one that its class takes, tasks are
--- committed once each of them has a config and no two share a part, and a stopped connector has no tasks (KIP-875).
+-- Which records may stand behind others in the config log (Connect's config topic): a config is one that its class
+-- takes, tasks are committed once each of them has a config and no two share a part, and a stopped connector has no
+-- tasks (KIP-875).
 use Rattle.std.specs.Prelude.{◌≡◌, ℕ, ◌<◌, ◌≤◌, Bool, true, false, List, [], ◌∷◌, ◌++◌, Option, Some, IsSome, unwrap_or}
 use Rattle.std.specs.Bool.{⊤}
 use Rattle.cw_keys.specs.ConfigKeys.{IsConfigKey}
@@ -16,10 +17,12 @@ use Rattle.cw_config.specs.View.{generation_of, task_count_of, target_of, deferr
 use Rattle.cw_config.specs.Acceptance.{end_of, has_tasks}
 use Rattle.cw_plugin.specs.Parts.{task_of}
 use Rattle.cw_plugin.specs.Tasks.{IsFaultless, parts_at, ShareNone}
+use Rattle.cw_model.specs.Lookups.{EachFrom}
 
 -- the parts of a task whose config waits for its commit
 abbrev pub waiting_parts : List ConfigRecord → List ℕ → ℕ → List PartKey
-waiting_parts before name index = parts_at name (unwrap_or (deferred_of (record { connector = name; index = index }) before) [])
+waiting_parts before name index =
+    parts_at name (unwrap_or (deferred_of (record { connector = name; index = index }) before) [])
 
 -- a commit of so many tasks: each has a config, no two share a part, and a stopped connector has none
 pub record FitsCommit (before : List ConfigRecord) (name : List ℕ) (count : ℕ) : Type 0 where
@@ -54,8 +57,7 @@ pub record IsAllowedConfig (before : List ConfigRecord) (r : ConfigRecord) : Typ
 
 -- records that may stand behind these, one after the other
 abbrev pub AreAllowedConfigs : (before : List ConfigRecord) → List ConfigRecord → Type 0
-AreAllowedConfigs before [] = ⊤
-AreAllowedConfigs before (r ∷ records) = IsAllowedConfig before r × AreAllowedConfigs (before ++ r ∷ []) records
+AreAllowedConfigs = EachFrom IsAllowedConfig
 
 -- a key of fences
 abbrev pub is_fence_key : ConfigKey → Bool

@@ -1,4 +1,5 @@
--- A round of the group (KIP-415): its members join with what they hold, the leader closes it and plans, and each is told its share.
+-- A round of the group (KIP-415): its members join with what they hold, the leader closes it and plans, and each is
+-- told its share.
 use Rattle.std.specs.Prelude.{◌≡◌, ℕ, ◌==◌, Bool, true, false, List, [], length, nat_le, Some, None, if◌then◌else◌}
 use Rattle.std.specs.Option.{option_map_or}
 use Rattle.cw_types.specs.declared.ids.Item.{Item}
@@ -17,7 +18,7 @@ use Rattle.cw_model.specs.Answers.{Answer, answered, at_worker, at_group}
 use Rattle.cw_model.specs.Updates.{changes_row}
 
 -- the group, which a worker has entered where it isn't a member
-abbrev pub entered : {J : Type 0} → ℕ → Cluster J → GroupState
+abbrev pub entered : ℕ → Cluster → GroupState
 entered w s = if is_member w s then s.group else enters w s.group
 
 -- as which member the group has a worker
@@ -26,20 +27,27 @@ incarnation_in w group = option_map_or (λ m. m.incarnation) (member_of w group.
 
 -- a worker that has joined with what it holds
 abbrev pub joining : (incarnation : ℕ) → List Item → Row → Row
-joining incarnation items row = record row { incarnation = Some incarnation; phase = Joining; assigned = items; revoked = [] }
+joining incarnation items row = record row {
+  incarnation = Some incarnation;
+  phase = Joining;
+  assigned = items;
+  revoked = [];
+}
 
 -- a worker joins, and may run what it holds: the answer is the round
-abbrev pub join : {J : Type 0} → ℕ → Cluster J → Answer J ℕ
+abbrev pub join : ℕ → Cluster → Answer ℕ
 join w = at_worker w (λ s. at_group (join_row w (incarnation_in w (entered w s)) (held w s) (entered w s))
-    (λ did. answered did.0 (changes_row w (joining (incarnation_in w did.1) (held w s)) (record s { group = did.1 }))) s)
+    (λ did. answered did.0 (changes_row w (joining (incarnation_in w did.1) (held w s))
+    (record s { group = did.1 }))) s)
 
 -- a worker that enters holds nothing
-abbrev pub MayJoin : {J : Type 0} → ℕ → Cluster J → Type 0
+abbrev pub MayJoin : ℕ → Cluster → Type 0
 MayJoin w s = is_member w s ≡ false → held w s ≡ []
 
 -- all have joined, and nobody joins this round any more
-abbrev pub close_round : {J : Type 0} → ℕ → Cluster J → Answer J (Unit {0})
-close_round w = at_worker w (λ s. at_group (close_row w s.group.round s.group) (λ group. answered tt (record s { group = group })) s)
+abbrev pub close_round : ℕ → Cluster → Answer (Unit {0})
+close_round w = at_worker w (λ s. at_group (close_row w s.group.round s.group)
+    (λ group. answered tt (record s { group = group })) s)
 
 -- whether a delay has run out
 abbrev pub is_due : (moment : ℕ) → Delay → Bool
@@ -52,21 +60,21 @@ is_running Idle = false
 is_running (Until at) = true
 
 -- a delay that has run out ends, and what was lost is free
-abbrev pub without_due_delay : {J : Type 0} → Cluster J → Cluster J
+abbrev pub without_due_delay : Cluster → Cluster
 without_due_delay s = if is_due s.moment s.delay then record s { lost = []; delay = Idle } else s
 
 -- the plan for the members, of what is configured
-abbrev pub plan_for : {J : Type 0} → Cluster J → Plan
+abbrev pub plan_for : Cluster → Plan
 plan_for s = plan_of (holders_of s.group.members) (configured_items s.configs) s.lost (is_running s.delay)
 
 -- the leader plans, and each member gets its share
-abbrev pub store_plan : {J : Type 0} → ℕ → Cluster J → Answer J (Unit {0})
+abbrev pub store_plan : ℕ → Cluster → Answer (Unit {0})
 store_plan w = at_worker w (λ s. at_group
     (store_row w s.group.round (plan_for (without_due_delay s)).shares (configured_items s.configs) s.group)
     (λ group. answered tt (record (without_due_delay s) { group = group })) s)
 
 -- whoever plans has read the whole config log
-abbrev pub MayStorePlan : {J : Type 0} → ℕ → Cluster J → Type 0
+abbrev pub MayStorePlan : ℕ → Cluster → Type 0
 MayStorePlan w s = (row_of w s).prefix ≡ length s.configs
 
 -- a worker with its share; it leads only where it is the leader of this round
@@ -80,5 +88,6 @@ stable_with w told row = record row {
 }
 
 -- a worker is told its share
-abbrev pub sync : {J : Type 0} → ℕ → Cluster J → Answer J (Unit {0})
-sync w = at_worker w (λ s. at_group (sync_row w s.group.round s.group) (λ told. answered tt (changes_row w (stable_with w told) s)) s)
+abbrev pub sync : ℕ → Cluster → Answer (Unit {0})
+sync w = at_worker w (λ s. at_group (sync_row w s.group.round s.group)
+    (λ told. answered tt (changes_row w (stable_with w told) s)) s)

@@ -1,5 +1,5 @@
--- The leader marks how transactions ended, in the log that holds their records (KIP-98, control records). That each log is marked by
--- its own event, in the order of the log, is this project's own.
+-- The leader marks how transactions ended, in the log that holds their records (KIP-98, control records). That each
+-- log is marked by its own event, in the order of the log, is this project's own.
 use Rattle.std.specs.Prelude.{◌&&◌, Bool, not, List, Option, None, IsSome, unwrap_or}
 use Rattle.std.specs.List.{find, filter_map, list_any}
 use Rattle.cw_types.specs.declared.ids.Tag.{Tag}
@@ -15,20 +15,18 @@ use Rattle.cw_types.specs.Verdict.{has_ended}
 use Rattle.cw_data.specs.declared.entry.DataEntry.TheVariants.{Mark as DataMark}
 use Rattle.cw_data.specs.Log.{first_unmarked as first_unmarked_data}
 use Rattle.cw_model.specs.State.{Cluster}
-use Rattle.cw_model.specs.Lookups.{offset_tag, offset_mark}
+use Rattle.cw_model.specs.Lookups.{offset_tag}
+use Rattle.cw_model.specs.Allowed.{is_marked}
 use Rattle.cw_model.specs.Answers.{Answer, answered, at_open}
 use Rattle.cw_model.specs.Updates.{appends_offset, appends_data}
 
--- whether a transaction is marked in the offset log
-abbrev pub is_marked : Tag → List OffsetEntry → Bool
-is_marked tag entries = list_any (same_tag tag) (filter_map offset_mark entries)
-
 -- the first transaction of the offset log that has ended and has no marker there
 abbrev pub first_unmarked_offset : (Tag → Verdict) → List OffsetEntry → Option Tag
-first_unmarked_offset verdict entries = find (λ tag. not (is_marked tag entries) && has_ended (verdict tag)) (filter_map offset_tag entries)
+first_unmarked_offset verdict entries = find (λ tag. not (is_marked tag entries) && has_ended (verdict tag))
+    (filter_map offset_tag entries)
 
 -- the transaction that a log is to mark next
-abbrev pub unmarked_in : {J : Type 0} → LogName → Cluster J → Option Tag
+abbrev pub unmarked_in : LogName → Cluster → Option Tag
 unmarked_in Config s = None
 unmarked_in Offsets s = first_unmarked_offset (verdict_of s.entries) s.offsets.frames
 unmarked_in Status s = None
@@ -40,17 +38,18 @@ abbrev pub no_tag : Tag
 no_tag = record { number = 0; epoch = record { 0 = 0 }; tid = Lead }
 
 -- a log gets the marker of a transaction; those of configs, statuses and transactions have none
-abbrev pub marks : {J : Type 0} → LogName → Tag → Bool → Cluster J → Answer J (Tag × Bool)
+abbrev pub marks : LogName → Tag → Bool → Cluster → Answer (Tag × Bool)
 marks Config tag committed s = answered (tag, committed) s
-marks Offsets tag committed s = appends_offset (Mark (record { tag = tag; committed = committed })) (λ t. t) (tag, committed) s
+marks Offsets tag committed s = appends_offset (Mark (record { tag = tag; committed = committed })) (λ t. t)
+    (tag, committed) s
 marks Status tag committed s = answered (tag, committed) s
 marks Txn tag committed s = answered (tag, committed) s
 marks Batches tag committed s = appends_data (DataMark tag committed) (λ t. t) (tag, committed) s
 
 -- the first transaction of a log that has ended is marked there: the answer is it, and whether it is committed
-abbrev pub mark : {J : Type 0} → LogName → Cluster J → Answer J (Tag × Bool)
+abbrev pub mark : LogName → Cluster → Answer (Tag × Bool)
 mark log = at_open (λ s. let tag = unwrap_or (unmarked_in log s) no_tag in marks log tag (is_committed tag s.entries) s)
 
 -- the log has such a transaction
-abbrev pub MayMark : {J : Type 0} → LogName → Cluster J → Type 0
+abbrev pub MayMark : LogName → Cluster → Type 0
 MayMark log s = IsSome (unmarked_in log s)

@@ -1,5 +1,5 @@
--- A task fails, and states are reported to the status log (Connect's status topic, KIP-875 for STOPPED). Which states are
--- reported, and the texts of failures, are this project's own.
+-- A task fails, and states are reported to the status log (Connect's status topic, KIP-875 for STOPPED). Which states
+-- are reported, and the texts of failures, are this project's own.
 use Rattle.std.specs.Prelude.{◌≡◌, ℕ, ◌&&◌, Bool, true, false, List, map, Some, unwrap_or, option_map, if◌then◌else◌}
 use Rattle.std.specs.List.{find, list_any}
 use Rattle.cw_types.specs.declared.ids.Item.{Item}
@@ -18,30 +18,19 @@ use Rattle.cw_model.specs.declared.instance.InstancePhase.{InstancePhase}
 use Rattle.cw_model.specs.declared.instance.InstancePhase.TheVariants as phase
 use Rattle.cw_model.specs.declared.instance.Trace.{Trace}
 use Rattle.cw_model.specs.declared.instance.Trace.TheVariants.{Fenced, LineTooLong}
-use Rattle.cw_model.specs.State.{Cluster}
+use Rattle.cw_model.specs.State.{Cluster, StampedStatus}
+use Rattle.cw_model.specs.Phases.{has_failed}
 use Rattle.cw_model.specs.Lookups.{row_of, seen, is_at, no_instance, connector_of, instance_of}
 use Rattle.cw_model.specs.Answers.{Answer, answered, at_worker, at_instance}
 use Rattle.cw_model.specs.Updates.{changes_instance, appends_status, next_status, stamp_of}
 
 -- an instance fails, and keeps why
-abbrev pub fail : {J : Type 0} → ℕ → Trace → Cluster J → Answer J (Unit {0})
-fail i trace = at_instance i (λ s. answered tt (changes_instance i (λ instance. record instance { phase = phase.Failed; trace = Some trace }) s))
-
--- whether an instance has failed
-abbrev pub has_failed : InstancePhase → Bool
-has_failed phase.Connector = false
-has_failed phase.New = false
-has_failed phase.Inited = false
-has_failed phase.Verified = false
-has_failed phase.Polling = false
-has_failed phase.Produced = false
-has_failed phase.Offered = false
-has_failed phase.Delivered = false
-has_failed phase.Failed = true
-has_failed phase.Ended = false
+abbrev pub fail : ℕ → Trace → Cluster → Answer (Unit {0})
+fail i trace = at_instance i (λ s. answered tt (changes_instance i
+    (λ instance. record instance { phase = phase.Failed; trace = Some trace }) s))
 
 -- an instance fails once
-abbrev pub MayFail : {J : Type 0} → ℕ → Cluster J → Type 0
+abbrev pub MayFail : ℕ → Cluster → Type 0
 MayFail i s = has_failed (instance_of i s).phase ≡ false
 
 -- the state of an item that hasn't failed, by its connector's target state; no task is reported as stopped
@@ -53,7 +42,8 @@ aimed_state (Task id) Stopped = state.Running
 
 -- the state of an instance, as its worker has read the target state
 abbrev pub state_of : List ConfigRecord → Instance → State
-state_of records i = if has_failed i.phase then state.Failed else aimed_state i.item (target_of (connector_of i.item) records)
+state_of records i =
+    if has_failed i.phase then state.Failed else aimed_state i.item (target_of (connector_of i.item) records)
 
 -- why an instance failed, as its status tells it
 abbrev pub trace_text : Trace → List ℕ
@@ -61,26 +51,38 @@ trace_text (Fenced own current) = fenced_trace own current
 trace_text (LineTooLong at) = long_line_trace at
 
 -- the status of an instance at a worker
-abbrev pub status_of : {J : Type 0} → ℕ → Instance → Cluster J → StatusValue
-status_of w i s = record { state = state_of (seen w s) i; trace = option_map trace_text i.trace; worker = w; round = (row_of w s).round }
+abbrev pub status_of : ℕ → Instance → Cluster → StatusValue
+status_of w i s = record {
+  state = state_of (seen w s) i;
+  trace = option_map trace_text i.trace;
+  worker = w;
+  round = (row_of w s).round;
+}
 
 -- whether an instance is of an item, at a worker, and hasn't ended
 abbrev pub is_item_at : ℕ → Item → Instance → Bool
 is_item_at w item i = is_at w i && same_item i.item item
 
 -- a worker's instance of an item
-abbrev pub instance_at : {J : Type 0} → ℕ → Item → Cluster J → Instance
+abbrev pub instance_at : ℕ → Item → Cluster → Instance
 instance_at w item s = unwrap_or (find (is_item_at w item) s.instances) no_instance
 
 -- an item's state counts as reported
-abbrev pub reports : {J : Type 0} → ℕ → Item → State → Cluster J → Cluster J
-reports w item state s = record s { instances = map (λ i. if is_item_at w item i then record i { reported = Some state } else i) s.instances }
+abbrev pub reports : ℕ → Item → State → Cluster → Cluster
+reports w item state s = record s {
+  instances = map (λ i. if is_item_at w item i then record i { reported = Some state } else i) s.instances;
+}
+
+-- the record of an item's status
+abbrev pub status_record : Item → StatusValue → Cluster → StampedStatus
+status_record item status s =
+    record { stamp = stamp_of s; status = record { offset = next_status s; item = item; value = status } }
 
 -- a worker reports an item's state
-abbrev pub put_status : {J : Type 0} → ℕ → Item → Cluster J → Answer J (Unit {0})
+abbrev pub put_status : ℕ → Item → Cluster → Answer (Unit {0})
 put_status w item = at_worker w (λ s. let status = status_of w (instance_at w item s) s in
-    appends_status (record { stamp = stamp_of s; status = record { offset = next_status s; item = item; value = status } }) (reports w item status.state) tt s)
+    appends_status (status_record item status s) (reports w item status.state) tt s)
 
 -- the item runs at the worker
-abbrev pub MayReport : {J : Type 0} → ℕ → Item → Cluster J → Type 0
+abbrev pub MayReport : ℕ → Item → Cluster → Type 0
 MayReport w item s = list_any (is_item_at w item) s.instances ≡ true

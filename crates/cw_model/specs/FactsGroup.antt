@@ -1,4 +1,5 @@
--- The facts of the group and of the workers' rows by which members run nothing in common, whatever happens next (KIP-415). They are this project's own.
+-- The facts of the group and of the workers' rows by which members run nothing in common, whatever happens next
+-- (KIP-415). They are this project's own.
 use Rattle.std.specs.Prelude.{◌≡◌, ◌≢◌, ℕ, ◌<◌, ◌^◌, true, List, Some, ◌++◌}
 use Rattle.std.specs.List.{flat_map, AllByRecursion, IsDistinct}
 use Rattle.std.specs.List.Sorted.{IsStrictlySortedBy}
@@ -20,7 +21,7 @@ abbrev pub AreAmong : List Item → List Item → Type 0
 AreAmong items others = (x : Item) → has items x ≡ true → has others x ≡ true
 
 -- a worker is a member, which may run this claim
-pub record Claims {J : Type 0} (s : Cluster J) (w : ℕ) (claim : List Item) : Type 0 where
+pub record Claims (s : Cluster) (w : ℕ) (claim : List Item) : Type 0 where
   pub member : Member
   pub there : member_of w s.group.members ≡ Some member
   pub current : is_member w s ≡ true
@@ -40,7 +41,7 @@ pub record IsWithinPlan (items : List Item) (m : Member) : Type 0 where
   pub planned : AreAmong (m.share.kept ++ m.share.fresh) items
 
 -- a row says what the group told its worker of the round
-pub record IsAsTold {J : Type 0} (s : Cluster J) (w leader : ℕ) : Type 0 where
+pub record IsAsTold (s : Cluster) (w leader : ℕ) : Type 0 where
   pub member : Member
   pub there : member_of w s.group.members ≡ Some member
   pub lowest : lowest_in s.group.members ≡ Some leader
@@ -48,7 +49,7 @@ pub record IsAsTold {J : Type 0} (s : Cluster J) (w leader : ℕ) : Type 0 where
   pub revoked : (row_of w s).revoked ≡ (synced w s.group member).revoked
 
 -- the facts of the group, and of what the rows say of it
-pub record GroupFacts {J : Type 0} (s : Cluster J) : Type 0 where
+pub record GroupFacts (s : Cluster) : Type 0 where
   -- the members stand in order, each once, so that each has one claim
   pub rising : AreRising s.group.members
   -- claims are apart: with the next field two members hold nothing in common
@@ -61,20 +62,24 @@ pub record GroupFacts {J : Type 0} (s : Cluster J) : Type 0 where
   pub known : (w : ℕ) (member : Member) → member_of w s.group.members ≡ Some member → is_member w s ≡ true
   -- no claim has a repeat: `store_plan` needs it, since a plan that keeps one of two gives the other up
   pub no_repeat : AllByRecursion (λ m. IsDistinct same_item m.claim) s.group.members
-  -- until the round is planned, who has joined claims in item order, as `join` has it: `store_plan` needs it, since plans are made of such claims. A plan
-  -- adds what it newly gives at a claim's end
-  pub in_order : s.group.phase ≢ Planned → AllByRecursion (λ m. m.joined ≡ true → IsStrictlySortedBy item_cmp m.claim) s.group.members
+  -- until the round is planned, who has joined claims in item order, as `join` has it: `store_plan` needs it, since
+  -- plans are made of such claims. A plan adds what it newly gives at a claim's end
+  pub in_order : s.group.phase ≢ Planned → AllByRecursion
+      (λ m. m.joined ≡ true → IsStrictlySortedBy item_cmp m.claim) s.group.members
   -- all have joined a round that is closed: `store_plan` needs it, since it plans for all
   pub all_joined : s.group.phase ≡ Closed → AllByRecursion (λ m. m.joined ≡ true) s.group.members
-  -- a member that has joined a round waits for its assignment until that is planned: `store_plan` needs it, so that a row that has one was told of this plan
-  pub waiting : s.group.phase ≢ Planned → (w : ℕ) (member : Member) → member_of w s.group.members ≡ Some member → member.joined ≡ true →
+  -- a member that has joined a round waits for its assignment until that is planned: `store_plan` needs it, so that a
+  -- row that has one was told of this plan
+  pub waiting : s.group.phase ≢ Planned → (w : ℕ) (member : Member) → member_of w s.group.members ≡ Some member →
+      member.joined ≡ true →
       (row_of w s).phase ≡ Joining
   -- a plan gives members what they may run and what is configured: what a worker is told, it may start
   pub within : s.group.phase ≡ Planned → AllByRecursion (IsWithinPlan s.group.planned) s.group.members
   -- a plan gives an item to one member alone, and to nobody what another is still to give up
   pub once : s.group.phase ≡ Planned → IsDistinct same_item (shared_items s.group.members)
   -- a worker that was told of this round's plan runs by it, and knows who leads
-  pub told : s.group.phase ≡ Planned → (w leader : ℕ) → is_member w s ≡ true → (row_of w s).phase ≡ Stable s.group.round leader → IsAsTold s w leader
+  pub told : s.group.phase ≡ Planned → (w leader : ℕ) → is_member w s ≡ true →
+      (row_of w s).phase ≡ Stable s.group.round leader → IsAsTold s w leader
   -- a plan forgets nothing, unless a departed member's return is waited for: once all is quiet, everything runs
   pub all_given : s.group.phase ≡ Planned → s.delay ≡ Idle → AreAmong s.group.planned (shared_items s.group.members)
   -- the round's number is one that a status can tell: `sync` needs it, which writes it to a row

@@ -1,5 +1,5 @@
--- The facts of the workers' rows and of each instance, of what it is and what it has in its phase, from which the facts of the group and of producers
--- follow at the next event. They are this project's own.
+-- The facts of the workers' rows and of each instance, of what it is and what it has in its phase, from which the
+-- facts of the group and of producers follow at the next event. They are this project's own.
 use Rattle.std.specs.Prelude.{◌≡◌, ◌≢◌, ℕ, ◌<◌, ◌≤◌, ◌^◌, ◌||◌, Bool, true, false, List, length, Any, Option, Some, None, IsSome, slice_get}
 use Rattle.std.specs.Bool.{⊤}
 use Rattle.std.specs.Option.{IsSomeAnd}
@@ -20,66 +20,39 @@ use Rattle.cw_model.specs.declared.row.Row.{Row}
 use Rattle.cw_model.specs.declared.row.Fencing.{Fencing}
 use Rattle.cw_model.specs.declared.instance.Cut.{Cut}
 use Rattle.cw_model.specs.declared.instance.Instance.{Instance}
-use Rattle.cw_model.specs.declared.instance.InstancePhase.{InstancePhase}
 use Rattle.cw_model.specs.declared.instance.InstancePhase.TheVariants as phase
 use Rattle.cw_model.specs.State.{Cluster}
-use Rattle.cw_model.specs.Lookups.{last_epoch}
+use Rattle.cw_model.specs.Lookups.{last_epoch, list_end}
 use Rattle.cw_model.specs.Updates.{epoch_in}
 use Rattle.cw_model.specs.Tasks.{parts_of, is_source, is_sink}
 use Rattle.cw_model.specs.EventsWorkers.{most_workers}
-use Rattle.cw_model.specs.FactsProducers.{is_starting, is_verified, is_fetched, has_open_transaction}
+use Rattle.cw_model.specs.Phases.{is_working, has_epoch, is_fetched, has_open_transaction, has_cut}
 
 -- ---- rows
 
 -- a fencing is of a generation that its connector had, which isn't above the newest
 abbrev pub IsBegun : List ConfigRecord → Option Fencing → Type 0
 IsBegun records None = ⊤
-IsBegun records (Some fencing) = IsSomeAnd (generation_of fencing.connector records) (λ newest. fencing.generation ≤ newest)
+IsBegun records (Some fencing) = IsSomeAnd (generation_of fencing.connector records)
+    (λ newest. fencing.generation ≤ newest)
 
 -- the facts of a row
-pub record IsSoundRow {J : Type 0} (s : Cluster J) (row : Row) : Type 0 where
-  -- it has read no more of the config log than there is: `start_item` and `fence_one` need it, which judge by what was read
+pub record IsSoundRow (s : Cluster) (row : Row) : Type 0 where
+  -- it has read no more of the config log than there is: `start_item` and `fence_one` need it, which judge by what was
+  -- read
   pub prefix : row.prefix ≤ length s.configs
   -- its lead epoch isn't ahead of the last one: `claim_lead` needs it, so that its epoch is no other row's
   pub lead : epoch_in row.lead ≤ last_epoch Lead s
-  -- its fencing isn't ahead of the newest generation: `verify` needs it, so that a task which goes on is none of those that the leader fences
+  -- its fencing isn't ahead of the newest generation: `verify` needs it, so that a task which goes on is none of those
+  -- that the leader fences
   pub fencing : IsBegun s.configs row.fencing
   -- its round is one that a status can tell: `put_status` needs it
   pub round : row.round < 2 ^ 64
 
 -- ---- instances
 
--- whether it is a task at work: from its start on, and neither failed nor ended
-abbrev pub is_working : InstancePhase → Bool
-is_working phase.Connector = false
-is_working phase.New = true
-is_working phase.Inited = true
-is_working phase.Verified = true
-is_working phase.Polling = true
-is_working phase.Produced = true
-is_working phase.Offered = true
-is_working phase.Delivered = true
-is_working phase.Failed = false
-is_working phase.Ended = false
-
--- whether it has its epoch
-abbrev pub has_epoch : InstancePhase → Bool
-has_epoch p = is_starting p || is_verified p
-
--- whether it took something that isn't settled yet: a batch that isn't committed, or records whose offset isn't stored
-abbrev pub has_cut : InstancePhase → Bool
-has_cut phase.Connector = false
-has_cut phase.New = false
-has_cut phase.Inited = false
-has_cut phase.Verified = false
-has_cut phase.Polling = false
-has_cut phase.Produced = true
-has_cut phase.Offered = true
-has_cut phase.Delivered = true
-has_cut phase.Failed = false
-has_cut phase.Ended = false
-
--- what some properties ask of a task of this connector: its parts are therefore the connector's own, none twice, and its topic is a name
+-- what some properties ask of a task of this connector: its parts are therefore the connector's own, none twice, and
+-- its topic is a name
 pub record IsTaskSpecOf (connector : List ℕ) (spec : TaskSpec) : Type 0 where
   pub properties : Properties
   pub asked : task_of connector properties ≡ Some spec
@@ -112,15 +85,18 @@ pub record HandsOut (i : Instance) (cut : Cut) : Type 0 where
   pub some : cut.from < cut.to
 
 -- the facts of an instance
-pub record IsSoundInstance {J : Type 0} (s : Cluster J) (i : Instance) : Type 0 where
+pub record IsSoundInstance (s : Cluster) (i : Instance) : Type 0 where
   -- it is at a worker that is there, and has a name that a status can tell: `put_status` needs both
   pub at_worker : i.worker < length s.rows
   pub named : IsItem i.item
-  -- it is a connector's or a task's: what writes is a task's, of parts of its own, which `commit` and `put_sink` need, since no task writes another's
+  -- it is a connector's or a task's: what writes is a task's, of parts of its own, which `commit` and `put_sink` need,
+  -- since no task writes another's
   pub of_item : IsOfItem s.configs i.item i
-  -- its generation is that of a record which is there: `append_config` needs it, so that a new commit's generation is no instance's
+  -- its generation is that of a record which is there: `append_config` needs it, so that a new commit's generation is
+  -- no instance's
   pub generation : i.generation < end_of s.configs
-  -- a source's task produces, and a sink's delivers: `commit` needs it, which is of a source's parts alone, and `put_sink`, which is of a sink's
+  -- a source's task produces, and a sink's delivers: `commit` needs it, which is of a source's parts alone, and
+  -- `put_sink`, which is of a sink's
   pub source : has_open_transaction i.phase ≡ true → is_source i ≡ true
   pub sink : i.phase ≡ phase.Delivered → is_sink i ≡ true
   -- it has its epoch from `init` on: whatever it writes, it writes as a producer
@@ -131,11 +107,12 @@ pub record IsSoundInstance {J : Type 0} (s : Cluster J) (i : Instance) : Type 0 
   pub cut : has_cut i.phase ≡ true → IsSomeAnd i.cut (λ cut. cut.turn < length (parts_of i))
   -- what a sink handed out goes on from its position: `put_sink` needs it, which stores how far that came
   pub delivered : i.phase ≡ phase.Delivered → IsSomeAnd i.cut (HandsOut i)
-  -- it has committed no more transactions than there are entries: `commit` needs it, since a number stays at the greatest one, and a full log has fewer entries
-  pub number : i.number ≤ length s.entries
+  -- it has committed no more transactions than there are entries: `commit` needs it, since a number stays at the
+  -- greatest one, and a full log has fewer entries
+  pub number : i.number ≤ list_end s.entries
 
 -- the facts of all rows and instances
-pub record RowFacts {J : Type 0} (s : Cluster J) : Type 0 where
+pub record RowFacts (s : Cluster) : Type 0 where
   -- there are no more workers than there may be: `put_status` needs it, whose statuses tell a worker's number
   pub few : length s.rows ≤ most_workers
   pub rows : AllByRecursion (IsSoundRow s) s.rows

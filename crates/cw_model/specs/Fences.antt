@@ -1,5 +1,6 @@
--- Fences of a connector's older tasks (KIP-618): behind the record of a fence, no task of an older set commits. That a fence's mark is the length of
--- the transaction list, and a generation the offset of a commit record, is this project's own.
+-- Fences of a connector's older tasks (KIP-618): behind the record of a fence, no task of an older set commits. That a
+-- fence's mark is the length of the transaction list, and a generation the offset of a commit record, is this
+-- project's own.
 use Rattle.std.specs.Prelude.{◌≡◌, ℕ, ◌≤◌, true, List, ◌∷◌, ◌++◌, length, drop, Option, Some}
 use Rattle.std.specs.Bool.{⊤}
 use Rattle.std.specs.List.{AllByRecursion, before_last}
@@ -9,10 +10,10 @@ use Rattle.cw_config.specs.Records.{has_key}
 use Rattle.cw_config.specs.View.{generation_of}
 use Rattle.cw_txn.specs.declared.entry.Entry.{Entry}
 use Rattle.cw_txn.specs.declared.entry.Entry.TheVariants.{Bump, Commit, Set}
-use Rattle.cw_model.specs.Lookups.{task_connector}
+use Rattle.cw_model.specs.Lookups.{task_connector, list_end, from_place}
 
--- a fence of a connector stands for a generation, with a mark: the generation is that of the last commit before it, and the mark is its stamp. A fence
--- before which there is no commit, as compaction may leave one, stands for none
+-- a fence of a connector stands for a generation, with a mark: the generation is that of the last commit before it,
+-- and the mark is its stamp. A fence before which there is no commit, as compaction may leave one, stands for none
 pub record StandingFence (records : List ConfigRecord) (name : List ℕ) (generation mark : ℕ) : Type 0 where
   pub before : List ConfigRecord
   pub fence : ConfigRecord
@@ -34,5 +35,5 @@ IsNotOlder name generation (Set tid epoch list) = ⊤
 
 -- a mark lies within the transaction list, and no entry from there on is such a commit
 pub record HoldsFrom (name : List ℕ) (generation mark : ℕ) (entries : List Entry) : Type 0 where
-  pub within : mark ≤ length entries
-  pub none_older : AllByRecursion (IsNotOlder name generation) (drop mark entries)
+  pub within : mark ≤ list_end entries
+  pub none_older : AllByRecursion (IsNotOlder name generation) (from_place mark entries)

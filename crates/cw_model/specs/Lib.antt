@@ -1,4 +1,5 @@
 pub mod State
+pub mod Phases
 pub mod Lookups
 pub mod Answers
 pub mod Bodies
@@ -15,6 +16,7 @@ pub mod FactsProducers
 pub mod FactsRows
 pub mod FactsLogs
 pub mod Facts
+pub mod Grows
 pub mod EventsWorkers
 pub mod EventsGroups
 pub mod EventsItems
@@ -27,9 +29,16 @@ pub mod EventsCompaction
 pub mod EventsRaw
 pub mod Refusals
 pub mod Ready
+pub mod Journal
 pub mod Proposals
+pub mod TickRules
 pub mod Tick
 pub mod TickText
 pub mod Quiet
+pub mod Polls
+pub mod Steps
+pub mod StepText
+pub mod Reopening
+pub mod Runs
 pub mod WorkedCases
 pub mod Cases

@@ -1,6 +1,7 @@
--- What is looked up in a state: a worker's row, an instance, what a worker has read of the config log, what it holds, which items are
--- configured, and what stands in the logs of offsets and transactions.
-use Rattle.std.specs.Prelude.{ℕ, ◌+◌, ◌==◌, ◌&&◌, Bool, true, false, not, List, [], ◌∷◌, map, take, nat_lt, slice_index_or, Option, Some, None, max, unwrap_or, is_some}
+-- What is looked up in a state: a worker's row, an instance, what a worker has read of the config log, what it holds,
+-- which items are configured, and what stands in the logs of offsets and transactions.
+use Rattle.std.specs.Prelude.{ℕ, ◌+◌, ◌==◌, ◌&&◌, Bool, true, false, not, List, [], ◌∷◌, ◌++◌, length, map, take, drop, nat_lt, slice_index_or, Option, Some, None, max, unwrap_or, is_some}
+use Rattle.std.specs.Bool.{⊤}
 use Rattle.std.specs.List.{filter, filter_map, flat_map, fold, range_with_len}
 use Rattle.cw_types.specs.declared.ids.Item.{Item}
 use Rattle.cw_types.specs.declared.ids.Item.TheVariants.{Connector, Task}
@@ -14,30 +15,51 @@ use Rattle.cw_group.specs.Members.{member_of}
 use Rattle.cw_group.specs.declared.member.Member.{Member}
 use Rattle.cw_config.specs.declared.records.ConfigRecord.{ConfigRecord}
 use Rattle.cw_config.specs.View.{config_of, task_count_of}
-use Rattle.cw_keys.specs.declared.config_key.ConfigKey.{ConfigKey}
-use Rattle.cw_keys.specs.declared.config_key.ConfigKey.TheVariants as key
 use Rattle.cw_txn.specs.declared.entry.Entry.{Entry}
 use Rattle.cw_txn.specs.History.{end_of}
 use Rattle.cw_txn.specs.Legal.{epoch_of}
+use Rattle.cw_rest.specs.Seen.{connector_key}
 use Rattle.cw_offset.specs.declared.body.OffsetEntry.{OffsetEntry}
 use Rattle.cw_offset.specs.declared.body.OffsetEntry.TheVariants.{Records, Mark}
 use Rattle.cw_model.specs.declared.row.Row.{Row}
 use Rattle.cw_model.specs.declared.row.RowPhase.TheVariants.{Out}
 use Rattle.cw_model.specs.declared.instance.Instance.{Instance}
-use Rattle.cw_model.specs.declared.instance.InstancePhase.{InstancePhase}
 use Rattle.cw_model.specs.declared.instance.InstancePhase.TheVariants as phase
 use Rattle.cw_model.specs.State.{Cluster}
+use Rattle.cw_model.specs.Phases.{is_ended}
 
 -- a worker as it is made: it lives and hears, and is no member
 abbrev pub new_row : Row
-new_row = record { live = true; hearing = true; incarnation = None; phase = Out; round = 0; assigned = []; revoked = []; prefix = 0; lead = None; fencing = None }
+new_row = record {
+  live = true;
+  hearing = true;
+  incarnation = None;
+  phase = Out;
+  round = 0;
+  assigned = [];
+  revoked = [];
+  prefix = 0;
+  lead = None;
+  fencing = None;
+}
 
 -- a worker that never was, which counts as killed
 abbrev pub no_row : Row
-no_row = record { live = false; hearing = false; incarnation = None; phase = Out; round = 0; assigned = []; revoked = []; prefix = 0; lead = None; fencing = None }
+no_row = record {
+  live = false;
+  hearing = false;
+  incarnation = None;
+  phase = Out;
+  round = 0;
+  assigned = [];
+  revoked = [];
+  prefix = 0;
+  lead = None;
+  fencing = None;
+}
 
 -- the row of a worker
-abbrev pub row_of : {J : Type 0} → ℕ → Cluster J → Row
+abbrev pub row_of : ℕ → Cluster → Row
 row_of w s = slice_index_or s.rows w no_row
 
 -- an instance that never was, which counts as ended
@@ -58,32 +80,19 @@ no_instance = record {
 }
 
 -- the instance of a number
-abbrev pub instance_of : {J : Type 0} → ℕ → Cluster J → Instance
+abbrev pub instance_of : ℕ → Cluster → Instance
 instance_of i s = slice_index_or s.instances i no_instance
 
 -- what a worker has read of the config log
-abbrev pub seen : {J : Type 0} → ℕ → Cluster J → List ConfigRecord
+abbrev pub seen : ℕ → Cluster → List ConfigRecord
 seen w s = take (row_of w s).prefix s.configs
-
--- whether an instance has ended
-abbrev pub is_ended : InstancePhase → Bool
-is_ended phase.Connector = false
-is_ended phase.New = false
-is_ended phase.Inited = false
-is_ended phase.Verified = false
-is_ended phase.Polling = false
-is_ended phase.Produced = false
-is_ended phase.Offered = false
-is_ended phase.Delivered = false
-is_ended phase.Failed = false
-is_ended phase.Ended = true
 
 -- whether a worker has an instance, which hasn't ended
 abbrev pub is_at : ℕ → Instance → Bool
 is_at w i = (i.worker == w) && not (is_ended i.phase)
 
 -- what a worker holds: the items of its instances that haven't ended, in item order
-abbrev pub held : {J : Type 0} → ℕ → Cluster J → List Item
+abbrev pub held : ℕ → Cluster → List Item
 held w s = in_order (map (λ i. i.item) (filter (is_at w) s.instances))
 
 -- whether the group knows a worker as the member as which it entered last
@@ -93,7 +102,7 @@ is_same_incarnation (Some incarnation) None = false
 is_same_incarnation (Some incarnation) (Some m) = m.incarnation == incarnation
 
 -- a worker whose row has the incarnation that the group has for it
-abbrev pub is_member : {J : Type 0} → ℕ → Cluster J → Bool
+abbrev pub is_member : ℕ → Cluster → Bool
 is_member w s = is_same_incarnation (row_of w s).incarnation (member_of w s.group.members)
 
 -- the connector of an item
@@ -101,30 +110,25 @@ abbrev pub connector_of : Item → List ℕ
 connector_of (Connector name) = name
 connector_of (Task id) = id.connector
 
--- a connector's name in a record of its config
-abbrev pub connector_key : ConfigKey → Option (List ℕ)
-connector_key (key.Connector name) = Some name
-connector_key (key.Task id) = None
-connector_key (key.Commit name) = None
-connector_key (key.Target name) = None
-connector_key (key.Fencing name) = None
-
 -- the items of a connector that is configured: itself and its tasks
 abbrev pub items_of : List ConfigRecord → List ℕ → List Item
-items_of records name = Connector name ∷ map (λ index. Task (record { connector = name; index = index })) (range_with_len 0 (task_count_of name records))
+items_of records name = Connector name ∷ map (λ index. Task (record { connector = name; index = index }))
+    (range_with_len 0 (task_count_of name records))
 
 -- the configured connectors' items, in item order
 abbrev pub configured_items : List ConfigRecord → List Item
 configured_items records =
-    in_order (flat_map (items_of records) (filter (λ name. is_some (config_of name records)) (filter_map (λ r. connector_key r.key) records)))
+    in_order (flat_map (items_of records) (filter (λ name. is_some (config_of name records))
+    (filter_map (λ r. connector_key r.key) records)))
 
 -- whether an item is configured: its connector is, and a task's number is below the count
 abbrev pub is_configured : List ConfigRecord → Item → Bool
 is_configured records (Connector name) = is_some (config_of name records)
-is_configured records (Task id) = is_some (config_of id.connector records) && nat_lt id.index (task_count_of id.connector records)
+is_configured records (Task id) = is_some (config_of id.connector records) &&
+    nat_lt id.index (task_count_of id.connector records)
 
 -- the last epoch of a producer
-abbrev pub last_epoch : {J : Type 0} → Tid → Cluster J → ℕ
+abbrev pub last_epoch : Tid → Cluster → ℕ
 last_epoch tid s = epoch_of tid s.entries
 
 -- the connector of which a producer is a task
@@ -136,6 +140,19 @@ task_connector (producer.Raw n) = None
 -- the position behind what is committed of a part, 0 where nothing is
 abbrev pub end_or_start : PartKey → List Entry → ℕ
 end_or_start part entries = unwrap_or (end_of part entries) 0
+
+-- a fact of each member of a list and of all those before it
+abbrev pub EachFrom : {A : Type 0} → (List A → A → Type 0) → List A → List A → Type 0
+EachFrom P before [] = ⊤
+EachFrom P before (x ∷ xs) = P before x × EachFrom P (before ++ x ∷ []) xs
+
+-- the place behind the last entry of the transaction list: how long the list is
+abbrev pub list_end : List Entry → ℕ
+list_end entries = length entries
+
+-- the entries from a place on
+abbrev pub from_place : ℕ → List Entry → List Entry
+from_place place entries = drop place entries
 
 -- frames one behind the other
 abbrev pub joined : {A : Type 0} → List (List A) → List A

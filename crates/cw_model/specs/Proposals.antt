@@ -1,5 +1,6 @@
--- The tasks that a connector's config asks for, and those that the config log has of it: a worker that runs the connector proposes new tasks where they
--- differ, and then commits them (Connect's task configs and commit records in the config topic).
+-- The tasks that a connector's config asks for, and those that the config log has of it: a worker that runs the
+-- connector proposes new tasks where they differ, and then commits them (Connect's task configs and commit records in
+-- the config topic).
 use Rattle.std.specs.Prelude.{ℕ, ◌&&◌, Bool, true, false, not, List, [], ◌∷◌, map, length, Option, Some, bytes_eq}
 use Rattle.std.specs.Option.{option_eq, option_map_or}
 use Rattle.std.specs.List.{range_with_len, enumerate_from}
@@ -25,7 +26,8 @@ proposal_of name records = option_map_or task_configs (config_of name records) [
 
 -- the configs of its tasks
 abbrev pub tasks_of : List ℕ → List ConfigRecord → List (Option Properties)
-tasks_of name records = map (λ index. task_of (task_id name index) records) (range_with_len 0 (task_count_of name records))
+tasks_of name records = map (λ index. task_of (task_id name index) records)
+    (range_with_len 0 (task_count_of name records))
 
 -- the configs of so many tasks that wait for a commit
 abbrev pub deferred_tasks : List ℕ → ℕ → List ConfigRecord → List (Option Properties)
@@ -51,11 +53,13 @@ is_stopped Stopped = true
 
 -- whether a connector that isn't stopped needs other tasks than it has
 abbrev pub needs_tasks : List ConfigRecord → List ℕ → Bool
-needs_tasks records name = not (is_stopped (target_of name records)) && not (are_configs (tasks_of name records) (proposal_of name records))
+needs_tasks records name = not (is_stopped (target_of name records)) &&
+    not (are_configs (tasks_of name records) (proposal_of name records))
 
 -- whether the tasks that it needs wait for their commit
 abbrev pub are_deferred : List ConfigRecord → List ℕ → Bool
-are_deferred records name = are_configs (deferred_tasks name (length (proposal_of name records)) records) (proposal_of name records)
+are_deferred records name = are_configs (deferred_tasks name (length (proposal_of name records)) records)
+    (proposal_of name records)
 
 -- the record that commits so many tasks
 abbrev pub commit_records : List ℕ → ℕ → List (ConfigKey × Option ConfigValue)

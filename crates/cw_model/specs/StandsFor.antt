@@ -1,5 +1,5 @@
--- When what the log files hold stands for a state without workers, and which harm is met first where it doesn't. All of it is this
--- project's own, as are the files.
+-- When what the log files hold stands for a state without workers, and which harm is met first where it doesn't. All
+-- of it is this project's own, as are the files.
 use Rattle.std.specs.Prelude.{◌≡◌, ◌↔◌, ◌⊎◌, ℕ, ◌≤◌, true, List, [], ◌∷◌, ◌++◌, length, Some, None, IsSome}
 use Rattle.std.specs.Bool.{⊤}
 use Rattle.std.specs.Option.{IsSomeAnd}
@@ -28,14 +28,15 @@ use Rattle.cw_data.specs.declared.entry.Batch.{Batch}
 use Rattle.cw_data.specs.declared.entry.DataEntry.{DataEntry}
 use Rattle.cw_data.specs.BodyReading.{entry_at as data_at}
 use Rattle.cw_model.specs.State.{Setting, Cluster, Paired}
-use Rattle.cw_model.specs.Lookups.{joined}
+use Rattle.cw_model.specs.Lookups.{EachFrom, joined, list_end}
 use Rattle.cw_model.specs.Bodies.{config_in, configs_in, statuses_in}
 use Rattle.cw_model.specs.Fences.{StandingFence, IsNotOlder}
 use Rattle.cw_model.specs.Committed.{is_task, batches_of, is_batch_of, Agrees}
 use Rattle.cw_model.specs.ConfigsAllowed.{IsAllowedConfig}
-use Rattle.cw_model.specs.Allowed.{EachFrom, IsAllowedStatus, IsAllowedStored, IsAllowedData}
+use Rattle.cw_model.specs.Allowed.{IsAllowedStatus, IsAllowedStored, IsAllowedData}
 
--- what the files of the five logs hold: the bodies of their frames, of a pair those of its chosen side, and that side's number
+-- what the files of the five logs hold: the bodies of their frames, of a pair those of its chosen side, and that
+-- side's number
 pub record Stored : Type 0 where
   pub config : Paired (List ℕ)
   pub offsets : Paired (List ℕ)
@@ -123,10 +124,24 @@ reading_of stored Batches = judged (IsReadable data_at) stored.batches
 
 -- ---- then each must be allowed at its place
 
+-- What is allowed, item by item, and the definition that says it:
+-- an offset above all earlier ones of its log, a key and a value in their grammars   IsAllowedConfig, IsAllowedStatus,
+--                                                                                    IsAllowedOffset
+-- a connector's value that its class takes, a task's value that names a task         FitsBehind
+-- a commit that finds its tasks, none of whose parts is in two, and none if stopped  FitsCommit
+-- a target Stopped that finds no task                                                FitsTarget
+-- a fence that has its commit's number                                               FitsFence
+-- entries that are legal, of parts that their producers own, none named twice        IsAllowedBehind (of transactions)
+-- no epoch of a batch, an offset record or a marker ahead of its producer's          IsKnown
+-- a batch that is its transaction's first of its part, without line ends in values   IsAllowedBatch
+-- an offset record before its transaction's marker                                   AreAllowedRecords
+-- a marker that is its transaction's first, and tells how that ended                 IsAllowedMark
+
 -- records of the config topic, each of which may stand behind those before it
 abbrev pub IsAllowedFrame : List ConfigRecord → List Applied → Type 0
 IsAllowedFrame before [] = ⊤
-IsAllowedFrame before (a ∷ frame) = IsSomeAnd (config_in a) (λ r. IsAllowedConfig before r × IsAllowedFrame (before ++ r ∷ []) frame)
+IsAllowedFrame before (a ∷ frame) = IsSomeAnd (config_in a)
+    (λ r. IsAllowedConfig before r × IsAllowedFrame (before ++ r ∷ []) frame)
 
 -- the frames of a log, as each is allowed at its place
 abbrev pub allowing_of : Frames → LogName → Judgement
@@ -147,25 +162,30 @@ pub record IsBatchFor (tag : Tag) (span : Span) (batch : Batch) : Type 0 where
 -- each span that a task commits has a batch
 abbrev pub HasSomeBatches : List DataEntry → Entry → Type 0
 HasSomeBatches log (Bump tid) = ⊤
-HasSomeBatches log (Commit tag generation spans) = is_task tag.tid ≡ true → AllByRecursion (λ span. Any (IsBatchFor tag span) (batches_of log)) spans
+HasSomeBatches log (Commit tag generation spans) =
+    is_task tag.tid ≡ true → AllByRecursion (λ span. Any (IsBatchFor tag span) (batches_of log)) spans
 HasSomeBatches log (Set tid epoch list) = ⊤
 
--- an entry behind others goes on from where its parts ended, has its batches, and is no commit of an older task behind a standing fence
-pub record IsSafeEntry (records : List ConfigRecord) (log : List DataEntry) (before : List Entry) (entry : Entry) : Type 0 where
+-- an entry behind others goes on from where its parts ended, has its batches, and is no commit of an older task behind
+-- a standing fence
+pub record IsSafeEntry
+    (records : List ConfigRecord) (log : List DataEntry) (before : List Entry) (entry : Entry) : Type 0 where
   pub chains : (part : PartKey) → ChainsBehind part before entry
   pub batches : HasSomeBatches log entry
-  pub fenced : (name : List ℕ) (generation mark : ℕ) → StandingFence records name generation mark → mark ≤ length before → IsNotOlder name generation entry
+  pub fenced : (name : List ℕ) (generation mark : ℕ) → StandingFence records name generation mark →
+      mark ≤ list_end before → IsNotOlder name generation entry
 
 -- no stamp is past the end of the transaction list
 abbrev pub AreStamped : List Entry → List Applied → Type 0
-AreStamped entries records = AllByRecursion (λ a. a.stamp ≤ length entries) records
+AreStamped entries records = AllByRecursion (λ a. a.stamp ≤ list_end entries) records
 
 -- the frames of a log, as they are safe
 abbrev pub safety_of : Frames → LogName → Judgement
 safety_of frames Config = judged (λ before frame. AreStamped (entries_in frames) frame) frames.config
 safety_of frames Offsets = judged (λ before frame. ⊤) frames.offsets
 safety_of frames Status = judged (λ before frame. ⊤) frames.status
-safety_of frames Txn = judged (λ before frame. EachFrom (IsSafeEntry (configs_in frames.config) frames.batches) (joined before) frame) frames.txn
+safety_of frames Txn = judged (λ before frame. EachFrom (IsSafeEntry (configs_in frames.config) frames.batches)
+    (joined before) frame) frames.txn
 safety_of frames Batches = judged (λ before frame. ⊤) frames.batches
 
 -- ---- the first harm
@@ -183,7 +203,8 @@ pub record IsFirstUnsafe (stored : Stored) (log : LogName) (at : ℕ) : Type 0 w
   pub allowed : AreSound (allowing_of frames)
   pub first : IsFirstOf (safety_of frames) log at
 
--- the first harm over all logs, and the number of its frame: all bodies are read before one is judged, and all are judged before one is called unsafe
+-- the first harm over all logs, and the number of its frame: all bodies are read before one is judged, and all are
+-- judged before one is called unsafe
 abbrev pub IsFirstHarm : Stored → LogName → ℕ → Harm → Type 0
 IsFirstHarm stored log at Magic = ⊥
 IsFirstHarm stored log at Version = ⊥
@@ -201,7 +222,7 @@ abbrev pub on_side_of : {A : Type 0} → Paired (List ℕ) → List A → Paired
 on_side_of chosen frames = record { frames = frames; side = chosen.side }
 
 -- the logs of a state hold just these frames, as they were spelled, and on the sides that were chosen
-pub record Holds {J : Type 0} (stored : Stored) (frames : Frames) (s : Cluster J) : Type 0 where
+pub record Holds (stored : Stored) (frames : Frames) (s : Cluster) : Type 0 where
   pub config : s.config ≡ on_side_of stored.config frames.config
   pub offsets : s.offsets ≡ on_side_of stored.offsets frames.offsets
   pub status : s.status ≡ on_side_of stored.status frames.status
@@ -209,7 +230,7 @@ pub record Holds {J : Type 0} (stored : Stored) (frames : Frames) (s : Cluster J
   pub batches : s.batches ≡ frames.batches
 
 -- a state as it is opened: its lists are what its logs are read as, there is no worker, and nothing was done yet
-pub record IsOpened {J : Type 0} (s : Cluster J) : Type 0 where
+pub record IsOpened (s : Cluster) : Type 0 where
   pub configs : s.configs ≡ configs_in s.config.frames
   pub statuses : s.statuses ≡ statuses_in s.status.frames
   pub entries : s.entries ≡ joined s.txn
@@ -223,7 +244,7 @@ pub record IsOpened {J : Type 0} (s : Cluster J) : Type 0 where
   pub closed : s.closed ≡ None
 
 -- what is stored stands for a state without workers, and for no other: each body is read, allowed at its place and safe
-pub record StandFor {J : Type 0} (stored : Stored) (s : Cluster J) : Type 0 where
+pub record StandFor (stored : Stored) (s : Cluster) : Type 0 where
   pub frames : Frames
   pub read : AreRead stored frames
   pub allowed : AreSound (allowing_of frames)
@@ -232,5 +253,5 @@ pub record StandFor {J : Type 0} (stored : Stored) (s : Cluster J) : Type 0 wher
   pub opened : IsOpened s
 
 -- a setting says of the state that was opened whether the feeds agree with it
-abbrev pub TellsWhetherFeedsAgree : {J : Type 0} → Setting → Cluster J → Type 0
+abbrev pub TellsWhetherFeedsAgree : Setting → Cluster → Type 0
 TellsWhetherFeedsAgree setting s = setting.agreed ≡ true ↔ Agrees setting.feeds s.entries s.batches

@@ -1,6 +1,6 @@
--- The state of the whole cluster, as plain lists: the logs, the group, the workers and what they run, as Kafka Connect's
--- distributed mode has them (Connect's config, offset and status topics; KIP-415, KIP-618). The data log and the transaction
--- list stand for Kafka's topics and its transaction coordinator.
+-- The state of the whole cluster, as plain lists: the logs, the group, the workers and what they run, as Kafka
+-- Connect's distributed mode has them (Connect's config, offset and status topics; KIP-415, KIP-618). The data log and
+-- the transaction list stand for Kafka's topics and its transaction coordinator.
 use Rattle.std.specs.Prelude.{ℕ, Bool, List, Option}
 use Rattle.cw_types.specs.declared.ids.Item.{Item}
 use Rattle.cw_types.specs.declared.logs.DiskName.{DiskName}
@@ -15,9 +15,11 @@ use Rattle.cw_group.specs.Group.{GroupState}
 use Rattle.cw_io.specs.Shelf.{Files}
 use Rattle.cw_model.specs.declared.row.Row.{Row}
 use Rattle.cw_model.specs.declared.instance.Instance.{Instance}
+use Rattle.cw_model.specs.declared.journal.JournalEntry.{JournalEntry}
 
--- what stays the same through a run: the group's name, the scheduled delay in milliseconds (KIP-415), the feeds, and whether what was committed was
--- what they yield when the logs were opened, since other feeds may be handed in under the same names (this project's own)
+-- what stays the same through a run: the group's name, the scheduled delay in milliseconds (KIP-415), the feeds, and
+-- whether what was committed was what they yield when the logs were opened, since other feeds may be handed in under
+-- the same names (this project's own)
 pub record Setting : Type 0 where
   pub group : List ℕ
   pub delay : ℕ
@@ -34,14 +36,15 @@ pub record StampedStatus : Type 0 where
   pub stamp : ℕ
   pub status : StatusRecord
 
-pub record Cluster (J : Type 0) : Type 0 where
+pub record Cluster : Type 0 where
   -- the five logs, frame by frame; keys and values of configs and statuses as they are spelled there
   pub config : Paired (List Applied)
   pub offsets : Paired OffsetEntry
   pub status : Paired (List Applied)
   pub txn : List (List Entry)
   pub batches : List DataEntry
-  -- what three of them held when they were opened, as it is read, and all that was written since; no compaction shortens these lists
+  -- the session lists: what three of them held when they were opened, as it is read, and all that was written since; no
+  -- compaction shortens these lists
   pub configs : List ConfigRecord
   pub statuses : List StampedStatus
   pub entries : List Entry
@@ -55,6 +58,6 @@ pub record Cluster (J : Type 0) : Type 0 where
   pub rows : List Row
   pub instances : List Instance
   -- the calls that were answered
-  pub journal : List J
+  pub journal : List JournalEntry
   -- the disk whose fault ended all writing, and its count of faults
   pub closed : Option (DiskName × ℕ)

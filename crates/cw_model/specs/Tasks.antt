@@ -1,5 +1,5 @@
--- What an instance of a task works on: its parts, its position in each, the transaction that it writes under, and what the feeds
--- yield to it (KIP-618). An instance that is no task has no parts.
+-- What an instance of a task works on: its parts, its position in each, the transaction that it writes under, and what
+-- the feeds yield to it (KIP-618). An instance that is no task has no parts.
 use Rattle.std.specs.Prelude.{ℕ, ◌-◌, ◌==◌, Bool, false, not, List, [], length, take, slice_index, slice_index_or, slice_set, Some, unwrap_or, option_and_then}
 use Rattle.std.specs.Option.{option_map_or}
 use Rattle.std.specs.List.{slice_split}
@@ -35,6 +35,10 @@ topic_of i = unwrap_or (option_and_then (λ task. task.topic) i.task) []
 -- how many records each of its sequences has
 abbrev pub count_of : Instance → ℕ
 count_of i = option_map_or (λ task. task.count) i.task 0
+
+-- how many records a batch of it has at most
+abbrev pub batch_limit_of : Instance → ℕ
+batch_limit_of i = option_map_or (λ task. task.batch) i.task 0
 
 -- whether it is a task of a source
 abbrev pub is_source : Instance → Bool

@@ -1,278 +1,17 @@
--- What a worker does at a tick of its herder: the first rule that applies, and of it one event (Connect's distributed herder; KIP-415 for the group,
--- KIP-618 for fences). Which rules there are, and in which order, is this project's own.
-use Rattle.std.specs.Prelude.{ℕ, ◌==◌, ◌&&◌, ◌||◌, Bool, true, false, not, List, [], ◌∷◌, map, length, filter, nat_lt, position, slice_get, Option, Some, None, is_some, is_none, unwrap_or, option_map, Result, Ok, Err, bytes_eq, if◌then◌else◌}
-use Rattle.std.specs.Option.{option_or, option_map_or}
-use Rattle.std.specs.List.{find, filter_map}
-use Rattle.std.specs.Cmp.Lexicographic.{pointwise}
-use Rattle.cw_types.specs.declared.ids.Item.{Item}
-use Rattle.cw_types.specs.declared.ids.Item.TheVariants.{Connector, Task}
-use Rattle.cw_types.specs.declared.logs.LogName.{LogName}
-use Rattle.cw_types.specs.declared.logs.LogName.TheVariants.{Offsets, Batches}
-use Rattle.cw_keys.specs.declared.state.State.{State}
-use Rattle.cw_keys.specs.Statuses.{state_name}
-use Rattle.cw_assign.specs.Items.{has, same_item, in_order}
-use Rattle.cw_group.specs.declared.answers.Phase.{Phase}
-use Rattle.cw_group.specs.declared.answers.Phase.TheVariants.{Open, Closed, Planned}
-use Rattle.cw_group.specs.declared.member.Member.{Member}
-use Rattle.cw_group.specs.Phases.{is_open, is_closed}
-use Rattle.cw_group.specs.Members.{member_of, lowest_in, lowest_missing_in}
-use Rattle.cw_config.specs.declared.records.ConfigRecord.{ConfigRecord}
-use Rattle.cw_config.specs.View.{generation_of, is_pending}
-use Rattle.cw_model.specs.declared.fault.WorldFault.{WorldFault}
-use Rattle.cw_model.specs.declared.fault.WorldFault.TheVariants.{Fenced}
-use Rattle.cw_model.specs.declared.instance.Instance.{Instance}
+-- What a worker does at a tick of its herder: the first rule that applies, and of it one event (Connect's distributed
+-- herder; KIP-415 for the group, KIP-618 for fences). Which rules there are, and in which order, is this project's
+-- own.
+use Rattle.std.specs.Prelude.{ℕ, List, [], ◌∷◌, Some, None, if◌then◌else◌}
+use Rattle.std.specs.Option.{option_or}
 use Rattle.cw_model.specs.declared.tick.Tick.{Tick}
 use Rattle.cw_model.specs.declared.tick.Tick.TheVariants as outcome
 use Rattle.cw_model.specs.State.{Cluster}
-use Rattle.cw_model.specs.Lookups.{row_of, seen, is_at, held, is_member, configured_items, is_configured}
+use Rattle.cw_model.specs.Lookups.{row_of}
 use Rattle.cw_model.specs.Answers.{Answer, answered}
-use Rattle.cw_model.specs.EventsGroups.{join, close_round, store_plan, sync, is_due}
-use Rattle.cw_model.specs.EventsItems.{read_config, start_item, stop_item}
-use Rattle.cw_model.specs.EventsLeading.{claim_lead, append_config, fence_one, append_fence, fencing_of, leads}
-use Rattle.cw_model.specs.EventsMarking.{mark, unmarked_in}
-use Rattle.cw_model.specs.EventsReports.{put_status, state_of, is_item_at}
-use Rattle.cw_model.specs.Ready.{is_stable, is_stable_in, ready, connector_in, pending_connectors}
-use Rattle.cw_model.specs.Proposals.{proposal_of, needs_tasks, are_deferred, commit_records, task_records}
-
--- ---- rules and what they tell
-
--- a rule that applies: what it does
-abbrev pub Rule : Type 0 → Type 0
-Rule J = Option (Unit {0} → Answer J Tick)
-
--- a rule that speaks of something, which it does where there is such
-abbrev pub rule : {J A : Type 0} → Option A → (A → Answer J Tick) → Rule J
-rule found does = option_map (λ x _. does x) found
-
--- what is there where a test passes
-abbrev pub when : Bool → Option (Unit {0})
-when false = None
-when true = Some tt
-
--- what a tick tells of an event that was done
-abbrev pub told : {A : Type 0} → Result A WorldFault → (A → Tick) → Result Tick WorldFault
-told (Ok x) tell = Ok (tell x)
-told (Err fault) tell = Err fault
-
--- what the tick answers behind an event
-abbrev pub tells : {J A : Type 0} → Answer J A → (A → Cluster J → Tick) → Answer J Tick
-tells did tell = (told did.0 (λ x. tell x did.1), did.1)
-
--- a leader that finds a later lead epoch has lost its lead; that is no fault of the tick
-abbrev pub or_lost : Result Tick WorldFault → Result Tick WorldFault
-or_lost (Err (Fenced own current)) = Ok (outcome.LostLead own current)
-or_lost answer = answer
-
--- the same of a whole answer
-abbrev pub unless_lost : {J : Type 0} → Answer J Tick → Answer J Tick
-unless_lost did = (or_lost did.0, did.1)
-
--- ---- read: the config log goes on behind what the worker has read
-
--- whether the config log goes on behind what a worker has read
-abbrev pub read_applies : {J : Type 0} → ℕ → Cluster J → Bool
-read_applies w s = nat_lt (row_of w s).prefix (length s.configs)
-
--- it reads up to the end: the tick tells how many records it has read
-abbrev pub reads : {J : Type 0} → ℕ → Cluster J → Answer J Tick
-reads w s = tells (read_config w s) (λ _ t. outcome.Read (row_of w t).prefix)
-
--- ---- stop: the worker runs what it is not to run
-
--- whether this is the newest generation
-abbrev pub is_generation : ℕ → Option ℕ → Bool
-is_generation generation None = false
-is_generation generation (Some newest) = newest == generation
-
--- whether a task is of another generation than the newest that was read
-abbrev pub is_of_other : List ConfigRecord → ℕ → Item → Bool
-is_of_other records generation (Connector name) = false
-is_of_other records generation (Task id) = not (is_generation generation (generation_of id.connector records))
-
--- whether an instance isn't to run at its worker, as that has read: it isn't assigned or isn't configured, or its task set isn't the newest
-abbrev pub is_outdated : {J : Type 0} → ℕ → Cluster J → Instance → Bool
-is_outdated w s i = not (has (row_of w s).assigned i.item) || not (is_configured (seen w s) i.item) || is_of_other (seen w s) i.generation i.item
-
--- the first of a worker's instances, in the order of items, that passes a test
-abbrev pub first_running : {J : Type 0} → (Instance → Bool) → ℕ → Cluster J → Option Item
-first_running test w s = slice_get (in_order (map (λ i. i.item) (filter (λ i. is_at w i && test i) s.instances))) 0
-
--- the group doesn't know the worker, or an instance isn't to run
-abbrev pub stop_applies : {J : Type 0} → ℕ → Cluster J → Option Item
-stop_applies w s = first_running (λ i. not (is_member w s) || is_outdated w s i) w s
-
--- the same of a worker that is deaf, which can't know whether the group knows it
-abbrev pub deaf_stop_applies : {J : Type 0} → ℕ → Cluster J → Option Item
-deaf_stop_applies w s = first_running (is_outdated w s) w s
-
--- the number of a worker's instance of an item
-abbrev pub number_at : {J : Type 0} → ℕ → Item → Cluster J → ℕ
-number_at w item s = unwrap_or (position (is_item_at w item) s.instances) 0
-
--- that instance ends
-abbrev pub stops : {J : Type 0} → ℕ → Cluster J → Item → Answer J Tick
-stops w s item = tells (stop_item (number_at w item s) s) (λ _ _. outcome.Stop item)
-
--- ---- join: a round is to begin, or has begun without the worker
-
--- whether a round is planned
-abbrev pub is_planned : Phase → Bool
-is_planned Open = false
-is_planned Closed = false
-is_planned Planned = true
-
--- whether a member is still to join
-abbrev pub has_not_joined : Option Member → Bool
-has_not_joined None = false
-has_not_joined (Some member) = not member.joined
-
--- whether two lists have the same items, in one order
-abbrev pub same_items : List Item → List Item → Bool
-same_items = pointwise same_item
-
--- whether a worker has its assignment of the planned round
-abbrev pub is_settled : {J : Type 0} → ℕ → Cluster J → Bool
-is_settled w s = is_planned s.group.phase && is_stable_in s.group.round (row_of w s).phase
-
--- whether a leader has to plan anew: other items are configured than were planned, or lost items were waited for long enough (KIP-415)
-abbrev pub is_to_plan : {J : Type 0} → ℕ → Cluster J → Bool
-is_to_plan w s = leads w (row_of w s).phase && (not (same_items (configured_items (seen w s)) s.group.planned) || is_due s.moment s.delay)
-
--- the group doesn't know the worker, or waits for it; or something is revoked from it (KIP-415), or it leads and has to plan anew
-abbrev pub join_applies : {J : Type 0} → ℕ → Cluster J → Bool
-join_applies w s =
-    not (is_member w s) ||
-    (is_open s.group.phase && has_not_joined (member_of w s.group.members)) ||
-    (is_settled w s && not (length (row_of w s).revoked == 0)) ||
-    (is_settled w s && is_to_plan w s)
-
--- it joins: the tick tells the round
-abbrev pub joins : {J : Type 0} → ℕ → Cluster J → Answer J Tick
-joins w s = tells (join w s) (λ round _. outcome.Join round)
-
--- ---- close, plan, sync: the lowest member closes a round that all have joined and plans it, and each member is told
-
--- whether a worker is the lowest member
-abbrev pub is_lowest : {J : Type 0} → ℕ → Cluster J → Bool
-is_lowest w s = option_map_or (λ lowest. lowest == w) (lowest_in s.group.members) false
-
--- all have joined an open round, and the worker is the lowest
-abbrev pub close_applies : {J : Type 0} → ℕ → Cluster J → Bool
-close_applies w s = is_open s.group.phase && is_lowest w s && is_none (lowest_missing_in s.group.members)
-
--- it closes the round
-abbrev pub closes : {J : Type 0} → ℕ → Cluster J → Answer J Tick
-closes w s = tells (close_round w s) (λ _ t. outcome.Close t.group.round)
-
--- the round is closed, and the worker is the lowest
-abbrev pub plan_applies : {J : Type 0} → ℕ → Cluster J → Bool
-plan_applies w s = is_closed s.group.phase && is_lowest w s
-
--- it plans the round
-abbrev pub plans : {J : Type 0} → ℕ → Cluster J → Answer J Tick
-plans w s = tells (store_plan w s) (λ _ t. outcome.Planned t.group.round)
-
--- the round is planned, and the member wasn't told yet
-abbrev pub sync_applies : {J : Type 0} → ℕ → Cluster J → Bool
-sync_applies w s = is_planned s.group.phase && is_member w s && not (is_stable_in s.group.round (row_of w s).phase)
-
--- it is told its assignment
-abbrev pub syncs : {J : Type 0} → ℕ → Cluster J → Answer J Tick
-syncs w s = tells (sync w s) (λ _ t. outcome.Sync t.group.round)
-
--- ---- lead: the leader of the worker's assignment is itself, and it has no epoch
-
--- whether a worker leads, and has no lead epoch
-abbrev pub lead_applies : {J : Type 0} → ℕ → Cluster J → Bool
-lead_applies w s = leads w (row_of w s).phase && is_none (row_of w s).lead
-
--- it claims one: the tick tells it
-abbrev pub takes_lead : {J : Type 0} → ℕ → Cluster J → Answer J Tick
-takes_lead w s = tells (claim_lead w s) (λ epoch _. outcome.Lead epoch.0)
-
--- ---- propose: a connector that the worker runs needs other tasks, and there is a leader to write them
-
--- what is written, at which leader
-pub record Proposing : Type 0 where
-  pub leader : ℕ
-  pub connector : List ℕ
-
--- the first connector that a ready worker runs and that needs other tasks
-abbrev pub propose_applies : {J : Type 0} → ℕ → Cluster J → Option Proposing
-propose_applies w s = option_map_or
-    (λ leader. option_map (λ name. record { leader = leader; connector = name }) (find (needs_tasks (seen w s)) (filter_map connector_in (held w s)))) (ready w s) None
-
--- the tasks are written, or, once they are, their commit
-abbrev pub proposes : {J : Type 0} → ℕ → Cluster J → Proposing → Answer J Tick
-proposes w s p = let proposal = proposal_of p.connector (seen w s) in unless_lost (
-    if are_deferred (seen w s) p.connector
-    then tells (append_config p.leader (commit_records p.connector (length proposal)) s) (λ offset _. outcome.Commit p.connector offset)
-    else tells (append_config p.leader (task_records p.connector proposal) s) (λ _ _. outcome.Propose p.connector (length proposal)))
-
--- ---- fence: the leader has read of a connector whose older tasks aren't fenced
-
--- the first connector whose older tasks a leader has to fence
-abbrev pub fence_applies : {J : Type 0} → ℕ → Cluster J → Option (List ℕ)
-fence_applies w s = if is_some (row_of w s).lead && is_stable (row_of w s).phase then slice_get (pending_connectors w s) 0 else None
-
--- one producer is fenced, or, once all are, that is written
-abbrev pub fences : {J : Type 0} → ℕ → Cluster J → List ℕ → Answer J Tick
-fences w s name = let fencing = fencing_of w name s in unless_lost (
-    if nat_lt fencing.next fencing.count
-    then tells (fence_one w name s) (λ did _. outcome.Fence (record { connector = name; index = did.0 }) did.1.0)
-    else tells (append_fence w name s) (λ offset _. outcome.FenceRecord name offset))
-
--- ---- mark: the leader finds a transaction that has ended and isn't marked, in the data log before the offset log
-
--- the log in which a leader has to mark a transaction
-abbrev pub mark_applies : {J : Type 0} → ℕ → Cluster J → Option LogName
-mark_applies w s =
-    if is_none (row_of w s).lead then None else
-    if is_some (unmarked_in Batches s) then Some Batches else
-    if is_some (unmarked_in Offsets s) then Some Offsets else None
-
--- it is marked: the tick tells which, and how it ended
-abbrev pub marks_ended : {J : Type 0} → Cluster J → LogName → Answer J Tick
-marks_ended s log = tells (mark log s) (λ did _. outcome.Mark log did.0 did.1)
-
--- ---- start: an assigned item doesn't run; a task waits until its connector's older tasks are fenced
-
--- whether an item is a task that may not start yet
-abbrev pub waits_for_fence : List ConfigRecord → Item → Bool
-waits_for_fence records (Connector name) = false
-waits_for_fence records (Task id) = is_pending id.connector records
-
--- whether an item that is assigned to a worker is to be started
-abbrev pub may_start : {J : Type 0} → ℕ → Cluster J → Item → Bool
-may_start w s item = is_configured (seen w s) item && not (has (held w s) item) && not (waits_for_fence (seen w s) item)
-
--- the first such item
-abbrev pub start_applies : {J : Type 0} → ℕ → Cluster J → Option Item
-start_applies w s = if is_stable (row_of w s).phase then find (may_start w s) (row_of w s).assigned else None
-
--- it is started: the tick tells the instance's number
-abbrev pub starts : {J : Type 0} → ℕ → Cluster J → Item → Answer J Tick
-starts w s item = tells (start_item w item s) (λ number _. outcome.Start item number)
-
--- ---- report: an instance's state isn't the one that was reported of it
-
--- whether this is the state that was reported last
-abbrev pub is_reported : State → Option State → Bool
-is_reported state None = false
-is_reported state (Some reported) = bytes_eq (state_name state) (state_name reported)
-
--- the first instance of a worker whose state isn't reported
-abbrev pub report_applies : {J : Type 0} → ℕ → Cluster J → Option Instance
-report_applies w s = find (λ i. is_at w i && not (is_reported (state_of (seen w s) i) i.reported)) s.instances
-
--- its state is reported
-abbrev pub reports_state : {J : Type 0} → ℕ → Cluster J → Instance → Answer J Tick
-reports_state w s i = tells (put_status w i.item s) (λ _ _. outcome.Report i.item (state_of (seen w s) i))
-
--- ---- the table
+use Rattle.cw_model.specs.TickRules.{Rule, rule, when, read_applies, reads, stop_applies, deaf_stop_applies, stops, join_applies, joins, close_applies, closes, plan_applies, plans, sync_applies, syncs, lead_applies, takes_lead, propose_applies, proposes, fence_applies, fences, mark_applies, marks_ended, start_applies, starts, report_applies, reports_state}
 
 -- the rules of a worker that hears, in their order
-abbrev pub rules : {J : Type 0} → ℕ → Cluster J → List (Rule J)
+abbrev pub rules : ℕ → Cluster → List Rule
 rules w s =
     rule (when (read_applies w s)) (λ _. reads w s) ∷
     rule (stop_applies w s) (stops w s) ∷
@@ -289,7 +28,7 @@ rules w s =
     []
 
 -- the rules of one that is deaf: it goes on with what it was told
-abbrev pub deaf_rules : {J : Type 0} → ℕ → Cluster J → List (Rule J)
+abbrev pub deaf_rules : ℕ → Cluster → List Rule
 deaf_rules w s =
     rule (deaf_stop_applies w s) (stops w s) ∷
     rule (start_applies w s) (starts w s) ∷
@@ -297,19 +36,19 @@ deaf_rules w s =
     []
 
 -- the first rule that applies
-abbrev pub first_rule : {J : Type 0} → List (Rule J) → Rule J
+abbrev pub first_rule : List Rule → Rule
 first_rule [] = None
 first_rule (first ∷ later) = option_or first (first_rule later)
 
 -- the rule that a worker follows
-abbrev pub rule_for : {J : Type 0} → ℕ → Cluster J → Rule J
+abbrev pub rule_for : ℕ → Cluster → Rule
 rule_for w s = first_rule (if (row_of w s).hearing then rules w s else deaf_rules w s)
 
 -- it is done; a worker to which none applies is idle
-abbrev pub follows : {J : Type 0} → Rule J → Cluster J → Answer J Tick
+abbrev pub follows : Rule → Cluster → Answer Tick
 follows None s = answered outcome.Idle s
 follows (Some does) s = does tt
 
 -- a worker's tick
-abbrev pub tick : {J : Type 0} → ℕ → Cluster J → Answer J Tick
+abbrev pub tick : ℕ → Cluster → Answer Tick
 tick w s = if (row_of w s).live then follows (rule_for w s) s else answered outcome.Dead s

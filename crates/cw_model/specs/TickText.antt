@@ -51,7 +51,8 @@ tick_text group (tick.Commit name offset) = words (codes "commit" ∷ name ∷ d
 tick_text group (tick.Fence id epoch) = words (codes "fence" ∷ task_text id ∷ decimal epoch ∷ [])
 tick_text group (tick.FenceRecord name offset) = words (codes "fenced" ∷ name ∷ decimal offset ∷ [])
 tick_text group (tick.Mark log tag committed) =
-    words (codes "mark" ∷ log_text log ∷ tid_text group tag.tid ∷ decimal tag.epoch.0 ∷ decimal tag.number ∷ end_text committed ∷ [])
+    words (codes "mark" ∷ log_text log ∷ tid_text group tag.tid ∷ decimal tag.epoch.0 ∷ decimal tag.number ∷
+    end_text committed ∷ [])
 tick_text group (tick.Start item number) = words (codes "start" ∷ item_text item ∷ decimal number ∷ [])
 tick_text group (tick.Report item state) = words (codes "report" ∷ item_text item ∷ state_name state ∷ [])
 tick_text group tick.Idle = codes "idle"

@@ -1,15 +1,14 @@
--- Clusters of worked cases: some of which a sentence of safety is false, some whose ticks are told, and the story of one source connector
--- from its creation to its first commit.
+-- Clusters of worked cases: some of which a sentence of safety is false, some whose ticks are told, and the story of
+-- one source connector from its creation to its first commit.
 use Rattle.std.specs.Prelude.{ℕ, List, [], ◌∷◌, ◌++◌, codes, decimal, replicate, Option, Some, None, Result, Ok, Err, map, true, false}
 use Rattle.cw_types.specs.declared.ids.TaskId.{TaskId}
-use Rattle.cw_types.specs.declared.ids.Span.{Span}
 use Rattle.cw_types.specs.declared.ids.Epoch.{Epoch}
 use Rattle.cw_types.specs.declared.ids.Tag.{Tag}
 use Rattle.cw_types.specs.declared.ids.Item.{Item}
 use Rattle.cw_types.specs.declared.ids.Item.TheVariants.{Connector, Task as TaskItem}
 use Rattle.cw_types.specs.declared.ids.Tid.TheVariants.{Lead, Task}
 use Rattle.cw_types.specs.declared.ids.PartKey.{PartKey}
-use Rattle.cw_types.specs.declared.ids.PartKey.TheVariants.{Raw, File, Seq, Sink}
+use Rattle.cw_types.specs.declared.ids.PartKey.TheVariants.{File, Seq}
 use Rattle.cw_bytes.specs.declared.applied.Applied.{Applied}
 use Rattle.cw_group.specs.declared.answers.Phase.TheVariants.{Planned}
 use Rattle.cw_group.specs.declared.member.Member.{Member}
@@ -20,9 +19,8 @@ use Rattle.cw_keys.specs.declared.config_key.ConfigKey.TheVariants as key
 use Rattle.cw_keys.specs.declared.config_value.ConfigValue.{ConfigValue}
 use Rattle.cw_keys.specs.declared.config_value.ConfigValue.TheVariants as value
 use Rattle.cw_keys.specs.declared.state.State.TheVariants.{Running}
-use Rattle.cw_keys.specs.Parts.{part_text, file_partition, seq_partition, sink_partition}
+use Rattle.cw_keys.specs.Parts.{part_text}
 use Rattle.cw_keys.specs.Offsets.{offset_text}
-use Rattle.serde_json.specs.Written.{compact_text}
 use Rattle.cw_config.specs.declared.records.ConfigRecord.{ConfigRecord}
 use Rattle.cw_config.specs.View.{Properties}
 use Rattle.cw_txn.specs.declared.entry.Entry.{Entry}
@@ -44,7 +42,8 @@ use Rattle.cw_model.specs.Answers.{Answer}
 use Rattle.cw_model.specs.EventsWorkers.{spawn}
 use Rattle.cw_model.specs.EventsItems.{read_config}
 use Rattle.cw_model.specs.EventsLeading.{append_config}
-use Rattle.cw_model.specs.EventsSources.{init, verify, fetch, produce, put_offsets, commit}
+use Rattle.cw_model.specs.Steps.{step}
+use Rattle.cw_model.specs.StepText.{step_text}
 use Rattle.cw_model.specs.Tick.{tick}
 use Rattle.cw_model.specs.TickText.{words, tick_text}
 use Rattle.cw_model.specs.StandsFor.{Stored}
@@ -72,11 +71,15 @@ fence_record = record { offset = 3; stamp = 1; key = key.Fencing name; value = S
 -- a task of the generation before commits its first transaction
 abbrev pub late_commit : Entry
 late_commit =
-    Commit (record { number = 0; epoch = record { 0 = 1 }; tid = Task first_task }) 1 (record { part = Seq name 0; from = 0; to = 5 } ∷ [])
+    Commit (record { number = 0; epoch = record { 0 = 1 }; tid = Task first_task }) 1
+    (record { part = Seq name 0; from = 0; to = 5 } ∷ [])
 
 -- the fence stands, and the older task commits behind it
 abbrev pub overtaken : Small
-overtaken = record empty_cluster { configs = commit_record ∷ fence_record ∷ []; entries = Bump (Task first_task) ∷ late_commit ∷ [] }
+overtaken = record empty_cluster {
+  configs = commit_record ∷ fence_record ∷ [];
+  entries = Bump (Task first_task) ∷ late_commit ∷ [];
+}
 
 -- ---- two members run one connector
 
@@ -137,12 +140,18 @@ one_byte = record no_bodies { config = record { frames = (9 ∷ []) ∷ []; side
 -- its feed, of twelve lines
 abbrev pub orders : List ℕ
 orders =
-    codes "line-01" ++ 10 ∷ codes "line-02" ++ 10 ∷ codes "line-03" ++ 10 ∷ codes "line-04" ++ 10 ∷ codes "line-05" ++ 10 ∷ codes "line-06" ++ 10 ∷
-    codes "line-07" ++ 10 ∷ codes "line-08" ++ 10 ∷ codes "line-09" ++ 10 ∷ codes "line-10" ++ 10 ∷ codes "line-11" ++ 10 ∷ codes "line-12" ++ 10 ∷ []
+    codes "line-01" ++ 10 ∷ codes "line-02" ++ 10 ∷ codes "line-03" ++ 10 ∷ codes "line-04" ++ 10 ∷
+    codes "line-05" ++ 10 ∷ codes "line-06" ++ 10 ∷ codes "line-07" ++ 10 ∷ codes "line-08" ++ 10 ∷
+    codes "line-09" ++ 10 ∷ codes "line-10" ++ 10 ∷ codes "line-11" ++ 10 ∷ codes "line-12" ++ 10 ∷ []
 
 -- a group with that feed
 abbrev pub setting : Setting
-setting = record { group = codes "connect-cluster"; delay = 300000; feeds = (codes "orders", orders) ∷ []; agreed = true }
+setting = record {
+  group = codes "connect-cluster";
+  delay = 300000;
+  feeds = (codes "orders", orders) ∷ [];
+  agreed = true;
+}
 
 -- its config, as a user creates it
 abbrev pub properties : Properties
@@ -157,7 +166,8 @@ created = (key.Connector name, Some (value.Connector properties)) ∷ []
 -- its task's config
 abbrev pub task_properties : Properties
 task_properties =
-    (codes "file", codes "orders") ∷ (codes "task.class", codes "FileStreamSourceTask") ∷ (codes "topic", codes "t") ∷ []
+    (codes "file", codes "orders") ∷ (codes "task.class", codes "FileStreamSourceTask") ∷
+    (codes "topic", codes "t") ∷ []
 
 -- the whole feed
 abbrev pub whole : Cut
@@ -169,23 +179,7 @@ pub data Move : Type 0 where
   Ticks : Move
   Create : Move
   Read : Move
-  Init : Move
-  Verify : Move
-  Fetch : Move
-  Produce : Move
-  PutOffsets : Move
-  Commits : Move
-
--- the text of a partition
-abbrev pub partition_text : PartKey → List ℕ
-partition_text (Raw n) = decimal n
-partition_text (File connector feed) = compact_text (file_partition feed)
-partition_text (Seq connector index) = compact_text (seq_partition index)
-partition_text (Sink connector topic) = compact_text (sink_partition topic)
-
--- the text of a span that is committed
-abbrev pub span_text : Span → List ℕ
-span_text span = words (codes "commit" ∷ partition_text span.part ∷ decimal span.from ∷ decimal span.to ∷ [])
+  Steps : Move
 
 -- what is told of an event, and the state behind it
 abbrev pub text_of : {A : Type 0} → Result A WorldFault → (A → List ℕ) → List ℕ
@@ -193,7 +187,7 @@ text_of (Ok x) text = text x
 text_of (Err fault) text = codes "refused"
 
 -- the same of a whole answer
-abbrev pub telling : {A : Type 0} → Answer ℕ A → (A → List ℕ) → List ℕ × Small
+abbrev pub telling : {A : Type 0} → Answer A → (A → List ℕ) → List ℕ × Small
 telling did text = (text_of did.0 text, did.1)
 
 -- one move at worker 0 or at its task, which is instance 1
@@ -202,12 +196,7 @@ moves Spawn s = telling (spawn s) (λ w. words (codes "worker" ∷ decimal w ∷
 moves Ticks s = telling (tick 0 s) (tick_text setting.group)
 moves Create s = telling (append_config 0 created s) (λ offset. words (codes "created" ∷ decimal offset ∷ []))
 moves Read s = telling (read_config 0 s) (λ _. codes "read")
-moves Init s = telling (init 1 s) (λ epoch. words (codes "init" ∷ decimal epoch.0 ∷ []))
-moves Verify s = telling (verify 1 s) (λ generation. words (codes "verify" ∷ decimal generation ∷ []))
-moves Fetch s = telling (fetch 1 s) (λ _. codes "fetch")
-moves Produce s = telling (produce setting 1 whole s) (λ _. codes "produce")
-moves PutOffsets s = telling (put_offsets 1 s) (λ _. codes "offsets")
-moves Commits s = telling (commit 1 s) span_text
+moves Steps s = telling (step setting 1 s) step_text
 
 -- what is told of some moves, and the state behind them
 abbrev pub plays : List Move → Small → List (List ℕ) × Small
@@ -228,7 +217,7 @@ middle = Create ∷ Read ∷ ticks 16
 
 -- and those up to the markers of its first transaction
 abbrev pub ending : List Move
-ending = Init ∷ Ticks ∷ Verify ∷ Ticks ∷ Fetch ∷ Produce ∷ PutOffsets ∷ Commits ∷ Ticks ∷ Ticks ∷ []
+ending = Steps ∷ Ticks ∷ Steps ∷ Ticks ∷ replicate 4 Steps ++ ticks 2
 
 -- what the task reads
 abbrev pub part : PartKey
@@ -236,7 +225,14 @@ part = File name (codes "orders")
 
 -- what its task does
 abbrev pub task : TaskSpec
-task = record { class = FileStreamSource; parts = part ∷ []; topic = Some (codes "t"); file = None; batch = 2000; count = 0 }
+task = record {
+  class = FileStreamSource;
+  parts = part ∷ [];
+  topic = Some (codes "t");
+  file = None;
+  batch = 2000;
+  count = 0;
+}
 
 -- ---- the states behind these moves
 
@@ -310,7 +306,8 @@ first_tag = record { number = 0; epoch = first_epoch; tid = Task first_task }
 
 -- the transaction list behind that commit
 abbrev pub all_entries : List Entry
-all_entries = Bump Lead ∷ Bump (Task first_task) ∷ Commit first_tag 2 (record { part = part; from = 0; to = 96 } ∷ []) ∷ []
+all_entries = Bump Lead ∷ Bump (Task first_task) ∷
+    Commit first_tag 2 (record { part = part; from = 0; to = 96 } ∷ []) ∷ []
 
 -- the lines that the feed has
 abbrev pub lines : List (List ℕ)
@@ -330,7 +327,11 @@ offset_applied = record { offset = 0; stamp = 2; key = part_text part; value = S
 abbrev pub running_status : ℕ → Item → StampedStatus
 running_status offset item = record {
   stamp = 2;
-  status = record { offset = offset; item = item; value = record { state = Running; trace = None; worker = 0; round = 3 } };
+  status = record {
+    offset = offset;
+    item = item;
+    value = record { state = Running; trace = None; worker = 0; round = 3 };
+  };
 }
 
 -- what was reported
@@ -340,7 +341,11 @@ all_statuses = running_status 0 (Connector name) ∷ running_status 1 (TaskItem 
 -- the task committed all of its feed, and the transaction is marked
 abbrev pub committed : Small
 committed = record started {
-  offsets = record { frames = Records first_tag (offset_applied ∷ []) ∷ OffsetMark (record { tag = first_tag; committed = true }) ∷ []; side = 1 };
+  offsets = record {
+    frames = Records first_tag (offset_applied ∷ []) ∷
+        OffsetMark (record { tag = first_tag; committed = true }) ∷ [];
+    side = 1;
+  };
   status = record { frames = map (λ r. status_applied r ∷ []) all_statuses; side = 1 };
   txn = map (λ entry. entry ∷ []) all_entries;
   batches = InBatch batch ∷ DataMark first_tag true ∷ [];
@@ -361,7 +366,8 @@ committed = record started {
 
 -- the connector was started, and a later leader claimed
 abbrev pub outrun : Small
-outrun = let s = (plays (Create ∷ Read ∷ ticks 5) led).1 in record s { txn = s.txn ++ (Bump Lead ∷ []) ∷ []; entries = s.entries ++ Bump Lead ∷ [] }
+outrun = let s = (plays (Create ∷ Read ∷ ticks 5) led).1 in
+    record s { txn = s.txn ++ (Bump Lead ∷ []) ∷ []; entries = s.entries ++ Bump Lead ∷ [] }
 
 -- ---- a task's cut begins elsewhere than its batch
 

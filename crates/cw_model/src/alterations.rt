@@ -1,7 +1,6 @@
 //! Worked cases of offsets that a user alters or resets (KIP-875), and of a log that is full.
 ghost use Rattle.std.specs.Prelude.{◌≡◌, ◌==◌, ◌∷◌, [], ◌++◌, ℕ, List, Option, Some, None, true, false};
-ghost use Rattle.cw_keys.specs.declared.config_key.ConfigKey.{ConfigKey};
-ghost use Rattle.cw_keys.specs.declared.config_value.ConfigValue.{ConfigValue};
+ghost use Rattle.cw_rest.specs.Seen.{KeyedValues};
 ghost use Rattle.cw_types.specs.declared.ids.Tid.TheVariants.{Lead};
 ghost use Rattle.cw_types.specs.declared.logs.LogName.TheVariants.{Config};
 ghost use Rattle.cw_txn.specs.declared.entry.Entry.TheVariants.{Bump, Set};
@@ -40,8 +39,9 @@ pub fn config_log_without_offsets_is_full()
 
 /// A config log takes no frame with which it would be longer than it may be.
 pub fn config_log_without_room_is_full()
-    ensures { (s : Cluster ℕ) (w : ℕ) (records : List (ConfigKey × Option ConfigValue)) →
+    ensures { (s : Cluster) (w : ℕ) (records : KeyedValues) →
         s.closed ≡ None → (row_of w s).live ≡ true → (epoch_in (row_of w s).lead == last_epoch Lead s) ≡ true →
         has_room (config_length s) (frame_of (config_body (stamped records s))) ≡ false →
-        append_config w records s ≡ refused (Full Config (config_length s) (frame_of (config_body (stamped records s)))) s }
+        append_config w records s ≡
+        refused (Full Config (config_length s) (frame_of (config_body (stamped records s)))) s }
 {}

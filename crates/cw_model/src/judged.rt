@@ -8,7 +8,7 @@ ghost use Rattle.cw_model.specs.Committed.{batches_of, committed_records};
 ghost use Rattle.cw_model.specs.Safe.{IsSafe, IsDisjoint, IsFenced, IsBacked};
 ghost use Rattle.cw_model.specs.FactsProducers.{HasItsBatch};
 ghost use Rattle.cw_model.specs.FactsRows.{RowFacts};
-ghost use Rattle.cw_model.specs.FactsLogs.{ConfigFacts};
+ghost use Rattle.cw_model.specs.FactsLogs.{AreShort, ConfigFacts};
 ghost use Rattle.cw_model.specs.Facts.{AreFacts};
 ghost use Rattle.cw_model.specs.StandsFor.{StandFor, IsFirstHarm};
 ghost use Rattle.cw_model.specs.Tick.{tick};
@@ -21,9 +21,9 @@ pub fn empty_cluster_is_safe()
     ensures { (setting : Setting) → IsSafe setting empty_cluster }
 {}
 
-/// It also meets the facts that keep a cluster safe.
+/// It also meets the facts that keep a cluster safe, where no feed is too long for an offset to tell its places.
 pub fn empty_cluster_meets_the_facts()
-    ensures { (setting : Setting) → AreFacts setting empty_cluster }
+    ensures { (setting : Setting) → AreShort setting.feeds → AreFacts setting empty_cluster }
 {}
 
 /// A task of an older set that commits behind a standing fence breaks what fences promise (KIP-618).
@@ -73,25 +73,33 @@ pub fn deaf_worker_is_idle()
 
 /// The first worker joins, closes and plans the first round, and leads.
 pub fn first_worker_leads()
-    ensures { plays beginning empty_cluster ≡
-        (codes "worker 0" ∷ codes "join 1" ∷ codes "close 1" ∷ codes "plan 1" ∷ codes "sync 1" ∷ codes "lead 1" ∷ [], led) }
+    ensures { plays beginning empty_cluster ≡ (
+      codes "worker 0" ∷ codes "join 1" ∷ codes "close 1" ∷ codes "plan 1" ∷ codes "sync 1" ∷
+          codes "lead 1" ∷ [],
+      led,
+    ) }
 {}
 
-/// A connector is created, planned and started; its task is proposed, committed, planned, and started once the fence is written.
+/// A connector is created, planned and started; its task is proposed, committed, planned, and started once the fence is
+/// written.
 pub fn created_connector_starts()
     ensures { plays middle led ≡ (
-      codes "created 0" ∷ codes "read" ∷ codes "join 2" ∷ codes "close 2" ∷ codes "plan 2" ∷ codes "sync 2" ∷ codes "start c/a 0" ∷
-          codes "propose a 1" ∷ codes "read 2" ∷ codes "commit a 2" ∷ codes "read 3" ∷ codes "join 3" ∷ codes "close 3" ∷ codes "plan 3" ∷
-          codes "sync 3" ∷ codes "fenced a 3" ∷ codes "read 4" ∷ codes "start t/a/0 1" ∷ [],
+      codes "created 0" ∷ codes "read" ∷ codes "join 2" ∷ codes "close 2" ∷ codes "plan 2" ∷ codes "sync 2" ∷
+          codes "start c/a 0" ∷ codes "propose a 1" ∷ codes "read 2" ∷ codes "commit a 2" ∷ codes "read 3" ∷
+          codes "join 3" ∷ codes "close 3" ∷ codes "plan 3" ∷ codes "sync 3" ∷ codes "fenced a 3" ∷
+          codes "read 4" ∷ codes "start t/a/0 1" ∷ [],
       started,
     ) }
 {}
 
-/// The task initialises its producer, is verified, fetches its position, and commits what it read; the leader marks the transaction.
+/// The task initialises its producer, is verified, fetches its position, and commits what it read; the leader marks the
+/// transaction.
 pub fn started_task_commits()
     ensures { plays ending started ≡ (
-      codes "init 1" ∷ codes "report c/a RUNNING" ∷ codes "verify 2" ∷ codes "report t/a/0 RUNNING" ∷ codes "fetch" ∷ codes "produce" ∷
-          codes "offsets" ∷ codes "commit {\"filename\":\"orders\"} 0 96" ∷ codes "mark batches connect-cluster-a-0 1 0 commit" ∷
+      codes "init 1" ∷ codes "report c/a RUNNING" ∷ codes "verify 2" ∷ codes "report t/a/0 RUNNING" ∷
+          codes "fetch" ∷ codes "produce {\"filename\":\"orders\"} 0 96" ∷ codes "offsets" ∷
+          codes "commit {\"filename\":\"orders\"} 0 96" ∷
+          codes "mark batches connect-cluster-a-0 1 0 commit" ∷
           codes "mark offsets connect-cluster-a-0 1 0 commit" ∷ [],
       committed,
     ) }

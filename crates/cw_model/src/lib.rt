@@ -9,8 +9,10 @@
 
 mod alterations;
 mod cases;
+mod did;
 mod fault;
 mod instance;
+mod journal;
 mod judged;
 mod opening;
 mod rebalances;
@@ -30,8 +32,10 @@ pub use cases::{
     new_task_goes_on_once_fenced, new_task_waits_for_its_fence, old_leader_is_fenced_and_gives_up,
     zombie_commits_no_more_once_fenced,
 };
+pub use did::Did;
 pub use fault::WorldFault;
 pub use instance::{Cut, Instance, InstancePhase, Trace};
+pub use journal::JournalEntry;
 pub use judged::{
     commit_without_batch_is_not_backed, committed_records_are_the_lines, created_connector_starts,
     deaf_worker_is_idle, empty_cluster_is_safe, empty_cluster_meets_the_facts,

@@ -7,13 +7,13 @@ ghost use Rattle.cw_model.specs.EventsCompaction.{compact};
 ghost use Rattle.cw_model.specs.StandsFor.{Stored, StandFor};
 
 /// What the log files hold stands for one state at most.
-pub fn stored_logs_stand_for_one_state<J>()
-    ensures { (stored : Stored) (s t : Cluster J) → StandFor stored s → StandFor stored t → s ≡ t }
+pub fn stored_logs_stand_for_one_state()
+    ensures { (stored : Stored) (s t : Cluster) → StandFor stored s → StandFor stored t → s ≡ t }
 {}
 
 /// A compaction makes no log longer, however its keys and values are spelled.
-pub fn compaction_lengthens_no_log<J>()
-    ensures config { (s : Cluster J) → config_length (compact Config s).1 ≤ config_length s }
-    ensures offsets { (s : Cluster J) → offsets_length (compact Offsets s).1 ≤ offsets_length s }
-    ensures status { (s : Cluster J) → status_length (compact Status s).1 ≤ status_length s }
+pub fn compaction_lengthens_no_log()
+    ensures config { (s : Cluster) → config_length (compact Config s).1 ≤ config_length s }
+    ensures offsets { (s : Cluster) → offsets_length (compact Offsets s).1 ≤ offsets_length s }
+    ensures status { (s : Cluster) → status_length (compact Status s).1 ≤ status_length s }
 {}

@@ -19,5 +19,6 @@ pub fn failed_task_is_reported_with_its_trace()
 /// A restart ends what runs of an item at a worker that hears the group, and nothing at one that is deaf.
 pub fn restart_reaches_workers_that_hear()
     ensures hears { held 1 (behind (restart 0 (task_s 1)) at_two_workers) ≡ [] }
-    ensures deaf { held 1 (played (behind (deaf 1) ∷ behind (restart 0 (task_s 1)) ∷ []) at_two_workers) ≡ task_s 1 ∷ [] }
+    ensures deaf { held 1 (played (behind (deaf 1) ∷ behind (restart 0 (task_s 1)) ∷ []) at_two_workers) ≡
+        task_s 1 ∷ [] }
 {}

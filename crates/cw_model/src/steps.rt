@@ -1,4 +1,5 @@
-//! Worked cases of the steps of tasks and of a script's producers: each event is computed, down to the bytes of its frame.
+//! Worked cases of the steps of tasks and of a script's producers: each event is computed, down to the bytes of its
+//! frame.
 ghost use Rattle.std.specs.Prelude.{◌≡◌, ◌∷◌, [], Some, Ok, true, false, codes, drop};
 ghost use Rattle.cw_types.specs.declared.logs.LogName.TheVariants.{Config, Offsets, Batches};
 ghost use Rattle.cw_txn.specs.History.{end_of};
@@ -62,11 +63,12 @@ pub fn config_log_keeps_the_last_of_each_key()
         answer_of (compact Config) (with_frames frames) ≡ Ok (2, 2) }
 {}
 
-/// A compaction leaves keys and values as they are spelled: of two target states the last one stays, with the bytes that
-/// it had when the log was opened.
+/// A compaction leaves keys and values as they are spelled: of two target states the last one stays, with the bytes
+/// that it had when the log was opened.
 pub fn compaction_leaves_spellings_as_they_are()
     ensures counts { answer_of (compact Config) opened_older ≡ Ok (2, 1) }
-    ensures stays { (behind (compact Config) opened_older).config.frames ≡ (record older_target { offset = 1 } ∷ []) ∷ [] }
+    ensures stays { (behind (compact Config) opened_older).config.frames ≡
+        (record older_target { offset = 1 } ∷ []) ∷ [] }
     ensures bytes { config_length opened_older ≡ 158 }
     ensures bytes_then { config_length (behind (compact Config) opened_older) ≡ 92 }
 {}

@@ -6,7 +6,7 @@ use Rattle.cw_model.specs.State.{Setting}
 use Rattle.cw_model.specs.FactsGroup.{GroupFacts}
 use Rattle.cw_model.specs.FactsProducers.{IsOfTask, ProducerFacts}
 use Rattle.cw_model.specs.FactsRows.{RowFacts}
-use Rattle.cw_model.specs.FactsLogs.{ConfigFacts, LogFacts}
+use Rattle.cw_model.specs.FactsLogs.{AreShort, ConfigFacts, LogFacts}
 use Rattle.cw_model.specs.Cases.{empty_cluster}
 use Rattle.cw_model.proofs.EmptyCluster.{empty_is_safe}
 use Rattle.cw_model.proofs.judged.empty_cluster_meets_the_facts.Goals as goal
@@ -54,10 +54,7 @@ producers setting = record {
   not_ahead = λ n id newest. absurd (no_task n id newest.is_task);
   apart_epochs = λ m n id epoch other writes. absurd (no_task m id writes.is_task);
   known_epochs = λ n id epoch writes. absurd (no_task n id writes.is_task);
-  unused = λ n id epoch writes. absurd (no_task n id writes.is_task);
-  unused_number = λ n id epoch writes. absurd (no_task n id writes.is_task);
-  uncommitted = λ n id epoch writes. absurd (no_task n id writes.is_task);
-  no_later_batch = λ n id epoch writes. absurd (no_task n id writes.is_task);
+  numbers = λ n id epoch writes. absurd (no_task n id writes.is_task);
 }
 
 configs : ConfigFacts [] [] []
@@ -80,23 +77,31 @@ configs = record {
   fences = λ name generation mark stands. stands;
 }
 
-logs : (setting : Setting) → LogFacts setting empty_cluster
-unfolding IsDistinct
-logs setting = record {
+logs : (setting : Setting) → AreShort setting.feeds → LogFacts setting empty_cluster
+logs setting short = record {
   configs_read = tt;
   statuses_read = tt;
   configs = configs;
   statuses = record { allowed = tt; standing_allowed = tt; end = refl; latest = λ item. refl };
   entries = tt;
   all_entries = refl;
-  offsets = record { fits = tt; once = tt; rising = λ short. tt };
+  offsets = tt;
   batches = tt;
   agree = λ agreed. tt;
+  short = short;
+  disks = record { config = omega arith; offsets = omega arith; status = omega arith; txn = omega arith; batches = omega arith };
+  written = record { config = tt; offsets = tt; status = tt; txn = tt; batches = tt };
 }
 
 rows : RowFacts empty_cluster
 rows = record { few = omega arith; rows = tt; instances = tt }
 
 pub returns : goal.returns
-returns c = λ setting.
-    record { safe = empty_is_safe setting; group = group; logs = logs setting; rows = rows; producers = producers setting }
+returns c = λ setting short. record {
+  safe = empty_is_safe setting;
+  group = group;
+  logs = logs setting short;
+  rows = rows;
+  producers = producers setting;
+  journal = tt;
+}

@@ -11,7 +11,7 @@ use Rattle.cw_model.proofs.LeadersRefusals.{append_fence-stays}
 use Rattle.cw_model.proofs.refusals.refused_event_changes_nothing.Goals as goal
 
 pub returns-clause-append_fence : goal.returns-clause-append_fence
-returns-clause-append_fence g c = λ s w name.
+returns-clause-append_fence c = λ s w name.
     let own = (fencing_of w name s).generation in
     let newest = unwrap_or (generation_of name s.configs) 0 in
     let frame = stamped (fence_record name (task_count_of name (seen w s))) s in
