@@ -1,5 +1,5 @@
--- Where a poll of a source cuts: behind the whole lines that it takes (Kafka Connect's FileStreamSourceTask takes at most
--- batch.size; the limits in bytes are this project's own).
+-- Where a poll of a source cuts: behind the whole lines that it takes (Kafka Connect's FileStreamSourceTask takes at
+-- most batch.size; the limits in bytes are this project's own).
 use Rattle.std.specs.Prelude.{◌≡◌, ◌+◌, ◌-◌, ◌==◌, ◌<◌, ◌≤◌, ℕ, List, [], ◌∷◌, ◌++◌, length, take, drop, min, sum, nat_le, nat_lt, if◌then◌else◌}
 use Rattle.cw_io.specs.Shelf.{Files}
 use Rattle.cw_types.specs.declared.ids.PartKey.{PartKey}
@@ -40,7 +40,8 @@ longest_line = 65536
 abbrev pub most_bytes : ℕ
 most_bytes = 1048576
 
--- the cut of the rest of a feed, whose whole lines are so long: it is judged by its first line, or without one by its length
+-- the cut of the rest of a feed, whose whole lines are so long: it is judged by its first line, or without one by its
+-- length
 abbrev pub cut_of_rest : ℕ → ℕ → List ℕ → List ℕ → CutAnswer
 cut_of_rest from max rest [] = if nat_lt longest_line (length rest) then LineTooLong from else AtEnd
 cut_of_rest from max rest (n ∷ lengths) =

@@ -1,5 +1,5 @@
--- What a source yields between two positions. A position in a feed is a count of bytes, and a record is a line (Kafka Connect's
--- FileStreamSourceTask); a position in a sequence is a count of records, each a text (this project's own).
+-- What a source yields between two positions. A position in a feed is a count of bytes, and a record is a line (Kafka
+-- Connect's FileStreamSourceTask); a position in a sequence is a count of records, each a text (this project's own).
 use Rattle.std.specs.Prelude.{◌≡◌, ◌≢◌, ◌-◌, ◌<◌, ◌≤◌, ℕ, List, [], ◌∷◌, ◌++◌, length, take, drop, map, All, slice_index, decimal, codes}
 use Rattle.std.specs.List.{range_with_len}
 use Rattle.cw_io.specs.Shelf.{Files}
@@ -48,7 +48,8 @@ HasYield feeds (Sink _ _) from to = ⊥
 
 -- what a part yields between these positions
 abbrev pub Yield : Files → PartKey → ℕ → ℕ → List (List ℕ) → Type 0
-Yield feeds (File _ feed) from to lines = EndsLine (feed_of feed feeds) from to × AreLinesOf (between (feed_of feed feeds) from to) lines
+Yield feeds (File _ feed) from to lines =
+    EndsLine (feed_of feed feeds) from to × AreLinesOf (between (feed_of feed feeds) from to) lines
 Yield feeds (Seq _ index) from to lines = (from ≤ to) × (lines ≡ records_between index from to)
 Yield feeds (Raw _) from to lines = ⊥
 Yield feeds (Sink _ _) from to lines = ⊥

@@ -10,8 +10,10 @@ ghost use Rattle.cw_feed.specs.Cut.{next_cut, TakesMost};
 
 /// A cut goes on, and a part yields something up to it.
 pub fn cuts_have_yields()
-    ensures further { (feeds : Files) (part : PartKey) (count from max to : ℕ) → 0 < max → next_cut feeds part count from max ≡ Cut to → from < to }
-    ensures yields { (feeds : Files) (part : PartKey) (count from max to : ℕ) → 0 < max → next_cut feeds part count from max ≡ Cut to → HasYield feeds part from to }
+    ensures further { (feeds : Files) (part : PartKey) (count from max to : ℕ) → 0 < max →
+        next_cut feeds part count from max ≡ Cut to → from < to }
+    ensures yields { (feeds : Files) (part : PartKey) (count from max to : ℕ) → 0 < max →
+        next_cut feeds part count from max ≡ Cut to → HasYield feeds part from to }
 {}
 
 /// The lines that a cut of a feed takes are the most that it may take.
@@ -24,8 +26,10 @@ pub fn cuts_are_most()
 ///
 /// [`Feeds::has_yield`]: crate::Feeds::has_yield
 pub fn yields_are_one()
-    ensures exist { (feeds : Files) (part : PartKey) (from to : ℕ) → HasYield feeds part from to → (records : List (List ℕ)) × Yield feeds part from to records }
-    ensures there { (feeds : Files) (part : PartKey) (from to : ℕ) (records : List (List ℕ)) → Yield feeds part from to records → HasYield feeds part from to }
+    ensures exist { (feeds : Files) (part : PartKey) (from to : ℕ) → HasYield feeds part from to →
+        (records : List (List ℕ)) × Yield feeds part from to records }
+    ensures there { (feeds : Files) (part : PartKey) (from to : ℕ) (records : List (List ℕ)) →
+        Yield feeds part from to records → HasYield feeds part from to }
     ensures one { (feeds : Files) (part : PartKey) (from to : ℕ) (records others : List (List ℕ)) →
         Yield feeds part from to records → Yield feeds part from to others → records ≡ others }
 {}
@@ -33,5 +37,6 @@ pub fn yields_are_one()
 /// Two yields one behind the other are one yield.
 pub fn yields_are_joined()
     ensures { (feeds : Files) (part : PartKey) (from middle to : ℕ) (records more : List (List ℕ)) →
-        Yield feeds part from middle records → Yield feeds part middle to more → Yield feeds part from to (records ++ more) }
+        Yield feeds part from middle records → Yield feeds part middle to more →
+        Yield feeds part from to (records ++ more) }
 {}
