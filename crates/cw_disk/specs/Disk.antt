@@ -1,7 +1,7 @@
--- What the calls of a disk do to its bytes, and what a stop of the machine may leave of them (this project's own disk model).
--- Between two syncs each range that was written or cut, and the part past the old end, may hold any bytes; all other bytes stay.
--- The length that a stop leaves is any from the least to the greatest since the last sync.
-use Rattle.std.specs.Prelude.{◌≡◌, ◌≤◌, ◌⊎◌, ◌+◌, ◌-◌, ◌^◌, max, min, ℕ, List, [], ◌∷◌, ◌++◌, length, take, drop}
+-- What the calls of a disk do to its bytes, and what a stop of the machine may leave of them (this project's own disk
+-- model). Between two syncs each range that was written or cut, and the part past the old end, may hold any bytes; all
+-- other bytes stay. The length that a stop leaves is any from the least to the greatest since the last sync.
+use Rattle.std.specs.Prelude.{◌≡◌, ◌≤◌, ◌⊎◌, ◌+◌, ◌-◌, ◌^◌, max, min, ℕ, List, [], ◌∷◌, ◌++◌, length, take, drop, Bool, Option, Some, None}
 
 -- the file with these bytes at this place
 abbrev pub written : {A : Type 0} → List A → ℕ → List A → List A
@@ -38,7 +38,31 @@ pub record Elapses (before now : ℕ) (past since : ℕ → List ℕ → Type 0)
   pub nothing_else : (t : ℕ) (image : List ℕ) → t ≤ before → since t image → past t image ⊎ may_leave image
   pub keeps : (t : ℕ) (image : List ℕ) → t ≤ before → past t image → since t image
 
--- From old to new a stop adds only images that have P: what it may have left since t it may have left before, or it has P.
-pub record Adds {D I : Type 0} (moment : D → ℕ) (left_since : D → ℕ → I → Type 0) (old new : D) (P : I → Type 0) : Type 0 where
+-- one step of time, between two values of what has a moment and leaves images
+abbrev pub GoesOn : {D : Type 0} → (D → ℕ) → (D → ℕ → List ℕ → Type 0) → (D → List ℕ → Type 0) → D → D → Type 0
+GoesOn moment left_since may_leave old new =
+    Elapses (moment old) (moment new) (left_since old) (left_since new) (may_leave new)
+
+-- From old to new a stop adds only images that have P: what it may have left since t it may have left before, or it has
+-- P.
+pub record AddsOf {D I : Type 0} (moment : D → ℕ) (left_since : D → ℕ → I → Type 0) (old new : D) (P : I → Type 0)
+    : Type 0 where
   pub later : moment old ≤ moment new
   pub before : (t : ℕ) (image : I) → t ≤ moment old → left_since new t image → left_since old t image ⊎ P image
+
+-- which calls are to fail, by their numbers, and how many calls there were
+pub record Plan : Type 0 where
+  pub fails : ℕ → Bool
+  pub calls : ℕ
+
+-- One call more, which failed exactly where that was planned. At its type's end the number of calls stands.
+pub record IsCounted (old new : Plan) (failed : Bool) : Type 0 where
+  pub fails : new.fails ≡ old.fails
+  pub calls : new.calls ≡ min (old.calls + 1) (2 ^ 64 - 1)
+  pub exact : failed ≡ old.fails old.calls
+
+-- one call more, where the plan is told
+abbrev pub GoesAsPlanned : Option Plan → Option Plan → Bool → Type 0
+GoesAsPlanned None new failed = Unit {0}
+GoesAsPlanned (Some old) None failed = ⊥
+GoesAsPlanned (Some old) (Some new) failed = IsCounted old new failed

@@ -1,9 +1,10 @@
--- What a stop may leave of a disk in memory (this project's own disk model, byte by byte): some length between the least and the
--- greatest since the last sync, and at each place that was neither written nor cut since then the byte that a read gives.
-use Rattle.std.specs.Prelude.{◌≡◌, ◌≤◌, ◌<◌, ◌⊎◌, ◌==◌, ℕ, List, [], ◌∷◌, length, take, drop, map, Bool, true, false, if◌then◌else◌, slice_index_or, vec_capacity, ◌-◌, min, not, replicate, nat_le, Some}
+-- What a stop may leave of a disk in memory (this project's own disk model, byte by byte): some length between the
+-- least and the greatest since the last sync, and at each place that was neither written nor cut since then the byte
+-- as read.
+use Rattle.std.specs.Prelude.{◌≡◌, ◌≤◌, ◌<◌, ◌⊎◌, ◌==◌, ℕ, List, [], ◌∷◌, length, take, drop, map, Bool, true, false, if◌then◌else◌, slice_index_or, vec_capacity, ◌-◌, min, not, replicate, nat_le, Some, ◌||◌}
 use mathlib.Core.Logic.{inl, inr}
-use Rattle.std.specs.List.{range_with_len}
-use Rattle.cw_disk.specs.Disk.{written}
+use Rattle.std.specs.List.{range_with_len, list_any}
+use Rattle.cw_disk.specs.Disk.{written, Plan}
 use Rattle.cw_disk.specs.declared.held.Held.{Held}
 use Rattle.cw_disk.specs.declared.memory.Way.{Way}
 use Rattle.cw_disk.specs.declared.memory.Way.TheVariants.{AsRead, Old, Noise}
@@ -31,12 +32,24 @@ HadLeft (h ∷ past) image = Leaves h image ⊎ HadLeft past image
 abbrev pub LeftSince : List Held → Held → ℕ → List ℕ → Type 0
 LeftSince past h t image = Leaves h image ⊎ HadLeft (drop t past) image
 
--- a disk in memory, as contracts see it
+-- a disk in memory, as contracts see it: its bytes and what it had before, its count of faults and its room, and which
+-- calls fail: those whose numbers are listed, and each from the fuse's number on
 pub record MemState : Type 0 where
   pub held : Held
   pub past : List Held
   pub count : ℕ
   pub room : ℕ
+  pub failing : List ℕ
+  pub fuse : ℕ
+  pub calls : ℕ
+
+-- whether the call of this number is to fail
+abbrev pub is_planned : List ℕ → ℕ → ℕ → Bool
+is_planned failing fuse number = nat_le fuse number || list_any (λ k. k == number) failing
+
+-- its plan: which calls fail, and how many there were
+abbrev pub plan_of : MemState → Plan
+plan_of disk = record { fails = is_planned disk.failing disk.fuse; calls = disk.calls }
 
 -- what is kept agrees: a disk as it reads is one of its images, and so is what it had at the last sync
 pub record IsHeld (h : Held) : Type 0 where
@@ -66,8 +79,10 @@ is_first_byte at (byte ∷ other ∷ bytes) n = false
 -- a write loosens the bytes that it touches; a first byte is whole or not there
 pub record Wrote (at : ℕ) (from : List ℕ) (old new : Held) : Type 0 where
   pub bytes : new.bytes.items ≡ written old.bytes.items at from
-  pub loose : new.loose.items ≡ written old.loose.items at (replicate (length from) (not (is_first_byte at from (length old.loose.items))))
-  pub synced : new.synced.items ≡ (if is_first_byte at from (length old.loose.items) then replicate (length old.synced.items) 0 else old.synced.items)
+  pub loose : new.loose.items ≡
+      written old.loose.items at (replicate (length from) (not (is_first_byte at from (length old.loose.items))))
+  pub synced : new.synced.items ≡ (if is_first_byte at from (length old.loose.items)
+      then replicate (length old.synced.items) 0 else old.synced.items)
   pub least : new.least ≡ old.least
   pub clean : new.clean ≡ min old.clean at
 
@@ -89,7 +104,8 @@ pub record Fastened (old new : Held) : Type 0 where
 
 -- each loose byte 0xFF, at the greatest length
 abbrev pub noise : List ℕ → List Bool → List ℕ
-noise bytes loose = map (λ i. if is_loose loose i then 255 else slice_index_or bytes i 0) (range_with_len 0 (length loose))
+noise bytes loose =
+    map (λ i. if is_loose loose i then 255 else slice_index_or bytes i 0) (range_with_len 0 (length loose))
 
 -- the image of each way
 abbrev pub image_of : Way → Held → List ℕ

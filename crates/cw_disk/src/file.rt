@@ -2,7 +2,9 @@
 // theorem rests on what the system does with it; that a real file keeps the disk model is believed.
 ghost use Rattle.std.specs.Prelude.{◌≡◌, ◌≤◌, List, ℕ, None, Option, OnOk, OnErr, IfOk, IsErr, MatchResult, length};
 ghost use Rattle.cw_types.specs.Faults.{Rose};
+ghost use Rattle.cw_disk.specs.Files.{path_text, AreNamed, AreFresh};
 ghost use Rattle.cw_disk.specs.Untold.{untold};
+ghost use Rattle.cw_types.specs.declared.logs.DiskName.{DiskName};
 
 use crate::{Disk, Disks, Failed, Memory};
 use cw_types::DiskName;
@@ -16,7 +18,7 @@ const FOLDER: &str = "connect-data";
 
 /// A disk that is the file of this name in the folder `connect-data`. Its first call other than
 /// `faults` and `reserve` makes folder and file where they are missing. Each `Err` of the system raises
-/// its count. It tells no content.
+/// its count. It tells no content. A folder or file that it made is made durable by a sync of its folder.
 #[derive(Drop)]
 pub struct FileDisk<R: Files> {
     files: R,
@@ -26,8 +28,10 @@ pub struct FileDisk<R: Files> {
     room: u64,
 }
 
-// Where the file of a disk lies.
-fn path_of(name: DiskName) -> &'static str {
+/// Where the file of a disk lies.
+pub fn path_of(name: DiskName) -> &'static str
+    ensures { result.now ≡ path_text name }
+{
     match name {
         DiskName::ConfigA => "connect-data/config_a",
         DiskName::ConfigB => "connect-data/config_b",
@@ -40,18 +44,38 @@ fn path_of(name: DiskName) -> &'static str {
     }
 }
 
+/// No two disks are one file.
+pub fn paths_differ()
+    ensures { (one other : DiskName) → path_text one ≡ path_text other → one ≡ other }
+{}
+
+// Makes the folder where it is missing, and then makes it durable that it is there.
+fn make_folder<R: Files>(files: &R) -> io::Result<()> {
+    match fs::create_dir(files, FOLDER) {
+        Ok(()) => sync_folder(files, "."),
+        Err(fault) if fault.kind() == ErrorKind::AlreadyExists => Ok(()),
+        Err(fault) => Err(fault),
+    }
+}
+
+// Makes it durable which files are in a folder.
+fn sync_folder<R: Files>(files: &R, folder: &str) -> io::Result<()> {
+    OpenOptions::new()
+        .read(true)
+        .open(files, folder)?
+        .sync_all()
+}
+
 // Makes folder and file where they are missing, and opens the file.
 fn open_file<R: Files>(files: &R, path: &str) -> io::Result<R::File> {
-    match fs::create_dir(files, FOLDER) {
-        Ok(()) => {}
-        Err(fault) if fault.kind() == ErrorKind::AlreadyExists => {}
-        Err(fault) => return Err(fault),
-    }
-    OpenOptions::new()
+    make_folder(files)?;
+    let file = OpenOptions::new()
         .read(true)
         .write(true)
         .create(true)
-        .open(files, path)
+        .open(files, path)?;
+    sync_folder(files, FOLDER)?;
+    Ok(file)
 }
 
 // As much of `into` as the file has from `at` on.
@@ -66,7 +90,10 @@ fn get<F: FileExt + OpenFile>(file: &F, at: u64, into: &mut [u8]) -> io::Result<
 
 impl<R: Files> FileDisk<R> {
     /// The disk of this name. Nothing is opened yet.
-    pub fn new(files: R, name: DiskName) -> FileDisk<R> {
+    pub fn new(files: R, name: DiskName) -> FileDisk<R>
+        ensures name { result.name ≡ name }
+        ensures count { result.count ≡ 0 }
+    {
         FileDisk {
             files,
             name,
@@ -124,6 +151,8 @@ where
 
     ghost reserved = { λ d. d.room };
 
+    ghost plan = { λ d. None };
+
     ghost as_read = { λ d file is. untold file is };
 
     ghost counts_now = { λ d t image le now. now };
@@ -177,7 +206,10 @@ where
 
 impl<'r, R: Files> Disks<FileDisk<&'r R>> {
     /// The eight files in the folder `connect-data`. Nothing is opened yet.
-    pub fn in_folder(files: &'r R) -> Disks<FileDisk<&'r R>> {
+    pub fn in_folder(files: &'r R) -> Disks<FileDisk<&'r R>>
+        ensures names { AreNamed (λ disk. disk.name) result }
+        ensures counts { AreFresh (λ disk. disk.count) result }
+    {
         Disks {
             config_a: FileDisk::new(files, DiskName::ConfigA),
             config_b: FileDisk::new(files, DiskName::ConfigB),

@@ -116,7 +116,8 @@ impl Held {
         ensures least { self.new.least ≡ self.old.least }
         ensures clean { self.new.clean ≡ self.old.clean }
         ensures kept { (room : ℕ) → HasRoom room self.old → HasRoom room self.new }
-        ensures room { OnOk result (length self.old.loose.items ≤ to → length self.old.bytes.items ≤ to → length self.old.synced.items ≤ to → HasRoom to self.new) }
+        ensures room { OnOk result (length self.old.loose.items ≤ to → length self.old.bytes.items ≤ to →
+            length self.old.synced.items ≤ to → HasRoom to self.new) }
     {
         let (bytes, loose, synced) = (self.bytes.len(), self.loose.len(), self.synced.len());
         self.bytes.reserve(to.saturating_sub(bytes))?;

@@ -15,6 +15,6 @@ mod tests;
 
 pub use device::{Disk, Failed, Memory};
 pub use disks::Disks;
-pub use file::FileDisk;
+pub use file::{FileDisk, path_of, paths_differ};
 pub use held::Held;
 pub use memory::{MemDisk, Way};

@@ -1,8 +1,8 @@
 // A disk in memory.
-ghost use Rattle.std.specs.Prelude.{◌≡◌, ◌≤◌, ◌<◌, ◌+◌, ◌++◌, ◌∷◌, List, ℕ, Option, Some, [], length, OnOk, OnErr, IfOk, Bool, true, false, min, take, drop, ◌-◌};
+ghost use Rattle.std.specs.Prelude.{◌≡◌, ◌≤◌, ◌<◌, ◌+◌, ◌++◌, ◌∷◌, List, ℕ, Option, Some, [], length, OnOk, OnErr, IfOk, Bool, true, false, min, take, drop, ◌-◌, ◌^◌, is_err};
 ghost use Rattle.std.proofs.Common.{inl};
 ghost use Rattle.cw_types.specs.Faults.{Rose};
-ghost use Rattle.cw_disk.specs.Memory.{MemState, Leaves, LeftSince, only_this, as_it_reads, image_of};
+ghost use Rattle.cw_disk.specs.Memory.{MemState, Leaves, LeftSince, only_this, as_it_reads, image_of, is_planned, plan_of};
 
 use crate::{Disk, Failed, Held, Memory};
 use cw_types::Past;
@@ -41,7 +41,15 @@ impl Model for MemDisk {
 
     ghost Value = { MemState };
 
-    ghost view = { λ m. record { held = m.held; past = m.past.items; count = m.count; room = m.room } };
+    ghost view = { λ m. record {
+      held = m.held;
+      past = m.past.items;
+      count = m.count;
+      room = m.room;
+      failing = m.failing.items;
+      fuse = m.fuse;
+      calls = m.calls;
+    } };
 
     ghost invariant = { λ m. IsMemory m.room m.held };
 }
@@ -51,6 +59,8 @@ fn call(calls: &mut u64, count: &mut u64, failing: &[u64], fuse: u64) -> Result<
     ensures ok { OnOk result (count.new ≡ count.old) }
     ensures err { OnErr result (Rose count.old count.new) }
     ensures later { count.old ≤ count.new }
+    ensures calls { calls.new ≡ min (calls.old + 1) (2 ^ 64 - 1) }
+    ensures planned { is_err result ≡ is_planned failing.now fuse calls.old }
 {
     let number = *calls;
     *calls = number.saturating_add(1);
@@ -73,6 +83,8 @@ impl MemDisk {
         ensures reads { IfOk result (λ disk. disk.held.bytes.items ≡ bytes.items) }
         ensures synced { IfOk result (λ disk. (image : List ℕ) → Leaves disk.held image → image ≡ bytes.items) }
         ensures count { IfOk result (λ disk. disk.count ≡ 0) }
+        ensures plan { IfOk result (λ disk. plan_of disk ≡
+            record { fails = is_planned failing.items fuse; calls = 0 }) }
     {
         let length = bytes.len();
         let synced = bytes.as_slice().to_vec(alloc)?;
@@ -101,6 +113,7 @@ impl MemDisk {
         ensures reads { result.held.bytes.items ≡ [] }
         ensures synced { (image : List ℕ) → Leaves result.held image → image ≡ [] }
         ensures count { result.count ≡ 0 }
+        ensures plan { plan_of result ≡ record { fails = is_planned [] (2 ^ 64 - 1); calls = 0 } }
     {
         MemDisk {
             alloc,
@@ -131,7 +144,9 @@ impl MemDisk {
     pub fn image(&self, way: Way) -> Result<MemDisk, Memory>
         ensures reads { IfOk result (λ disk. disk.held.bytes.items ≡ image_of way self.now.held) }
         ensures left { IfOk result (λ disk. Leaves self.now.held disk.held.bytes.items) }
-        ensures synced { IfOk result (λ disk. (image : List ℕ) → Leaves disk.held image → image ≡ image_of way self.now.held) }
+        ensures synced { IfOk result (λ disk. (image : List ℕ) → Leaves disk.held image →
+            image ≡ image_of way self.now.held) }
+        ensures plan { IfOk result (λ disk. plan_of disk ≡ record { fails = is_planned [] (2 ^ 64 - 1); calls = 0 }) }
     {
         let bytes = self.held.image(self.alloc, way)?;
         MemDisk::new(self.alloc, bytes, Vec::new(self.alloc), u64::MAX)
@@ -150,6 +165,8 @@ impl Disk for MemDisk {
     ghost count = { λ m. m.count };
 
     ghost reserved = { λ m. m.room };
+
+    ghost plan = { λ m. Some (plan_of m) };
 
     ghost as_read = { λ m file is. as_it_reads m.held file is };
 

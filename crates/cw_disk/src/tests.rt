@@ -1,4 +1,4 @@
-// What no clause says: which bytes each image has, which calls fail, and that a real file does as asked.
+// What no clause says: which bytes each image has, and that a real file does as asked.
 
 use crate::{Disk, Disks, Failed, MemDisk, Way};
 use std::test::Fail;
@@ -52,26 +52,6 @@ fn a_first_byte_is_0_or_not_there(rt: HostRuntime) -> Result<(), Fail> {
     assert_eq!(rt; disk.image(Way::Old)?.bytes(), b"\0".as_slice());
     assert_eq!(rt; write(&mut disk, 0, &[1]), Ok(()));
     assert_eq!(rt; disk.image(Way::Noise)?.bytes(), b"\xFF".as_slice());
-    Ok(())
-}
-
-#[test]
-fn planned_calls_fail_and_are_counted(rt: HostRuntime) -> Result<(), Fail> {
-    let alloc = rt.alloc();
-    let mut disk = MemDisk::new(alloc, b"abc".to_vec(alloc)?, vec![in alloc; 1, 4]?, 6)?;
-    let mut into = [0; 4];
-    assert_eq!(rt; disk.len(), Ok(3));
-    assert_eq!(rt; disk.sync(), Err(Failed));
-    assert_eq!(rt; disk.read_at(1, &mut into), Ok(2));
-    assert_eq!(rt; into, [b'b', b'c', 0, 0]);
-    assert_eq!(rt; disk.reserve(9).is_ok(), true);
-    assert_eq!(rt; disk.read_at(7, &mut into), Ok(0));
-    assert_eq!(rt; cut(&mut disk, 1), Err(Failed));
-    assert_eq!(rt; disk.faults(), 2);
-    assert_eq!(rt; disk.sync(), Ok(()));
-    assert_eq!(rt; disk.len(), Err(Failed));
-    assert_eq!(rt; disk.sync(), Err(Failed));
-    assert_eq!(rt; disk.faults(), 4);
     Ok(())
 }
 

@@ -1,5 +1,6 @@
 -- An append to a log at rest.
 use Rattle.std.proofs.Common.{◌≡◌, ◌≤◌, ◌<◌, inl, inr, ℕ, zero, suc, ◌+◌, List, [], ◌∷◌, ◌++◌, length, take, drop, get_or, refl, sym, ◌∙◌, ap, subst, arith, append_assoc, length-append, length-take, take-append-drop, Option, Some, None, option_map, is_some, Bool}
+use Rattle.cw_disk.specs.Told.{ReadsOf}
 use Rattle.std.proofs.lemmas.List.{take_at, take-take, get_or-map, length-map}
 use Rattle.cw_log.specs.declared.place.Place.{Place}
 use Rattle.cw_log.specs.declared.place.Frames.{Frames}
@@ -7,7 +8,7 @@ use Rattle.cw_log.specs.Calls.{IsGated}
 use Rattle.cw_log.specs.Log.{field, IsBody, AreFrames, Begins, IsHead, StandsFor, BeforeOrAfter, places_from, places_before, bodies_at, length_of}
 use Rattle.std.specs.Prelude.{Vec, vec_capacity}
 use Rattle.std.specs.declared.alloc.Global.{Global}
-use Rattle.cw_log.specs.Calls.{Reads, IsAhead}
+use Rattle.cw_log.specs.Calls.{IsAhead}
 use Rattle.cw_log.specs.declared.window.Window.{Window}
 use Rattle.cw_log.specs.State.{IsKept, IsRest, IsLog, IsKnown, HasRoom, KeepsFrames}
 use Rattle.cw_log.proofs.Frames.{length-field, frames_push, places_push, frames_length}
@@ -150,14 +151,15 @@ body_at gate places file i place b low is = (
 
 -- a log whose disk was read, with other room
 module _ {D : Type 0} (holds : D → Option (List ℕ)) (may_leave : D → List ℕ → Type 0) (moment : D → ℕ) (left_since : D → ℕ → List ℕ → Type 0) (count reserved : D → ℕ) where
-  pub log_read : (old new : D) (kind ready ready' : ℕ) (frames frames' : Frames) (tail tail' : Vec ℕ Global) (ahead ahead' : Option Window) (shut : Bool) → IsLog holds may_leave reserved old kind ready frames tail ahead shut
-      → Reads holds may_leave moment left_since count reserved old new → KeepsFrames frames frames' → ((file : List ℕ) → holds old ≡ Some file → IsKnown frames'.known frames'.starts.items)
-      → (0 < ready' → HasRoom reserved new ready' frames' tail') → IsAhead (holds old) ahead' → IsLog holds may_leave reserved new kind ready' frames' tail' ahead' shut
-  log_read old new kind ready ready' frames frames' tail tail' ahead ahead' shut log reads keeps known room is_ahead = record {
+  pub log_read : (old new : D) (kind number ready ready' : ℕ) (frames frames' : Frames) (tail tail' : Vec ℕ Global) (ahead ahead' : Option Window) (shut : Bool) → IsLog holds may_leave reserved old kind number ready frames tail ahead shut
+      → ReadsOf holds may_leave moment left_since count reserved old new → KeepsFrames frames frames' → ((file : List ℕ) → holds old ≡ Some file → IsKnown frames'.known frames'.starts.items)
+      → (0 < ready' → HasRoom reserved new ready' frames' tail') → IsAhead (holds old) ahead' → IsLog holds may_leave reserved new kind number ready' frames' tail' ahead' shut
+  log_read old new kind number ready ready' frames frames' tail tail' ahead ahead' shut log reads keeps known room is_ahead = record {
     kept = λ file is. subst (λ (n : ℕ). IsKept kind n (places_before n frames'.starts.items) file) (sym keeps.gate)
         (subst (λ (l : List ℕ). IsKept kind frames.gate (places_before frames.gate l) file) (sym keeps.starts) (log.kept file (sym reads.same ∙ is)));
     rest = λ alive file is. subst (λ (n : ℕ). IsRest n (may_leave new) file) (sym keeps.gate) (rest_read frames.gate file (may_leave old) (may_leave new) reads.fewer (log.rest alive file (sym reads.same ∙ is)));
     known = λ file is. known file (sym reads.same ∙ is);
+    side = λ file is. log.side file (sym reads.same ∙ is);
     low = omega (arith, log.low, keeps.gate);
     high = omega (arith, log.high, keeps.gate);
     room = room;

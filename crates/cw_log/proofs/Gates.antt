@@ -1,9 +1,10 @@
 -- What the calls of a log add to the images of its disk.
 use Rattle.std.proofs.Common.{is_some, ◌≡◌, ◌≤◌, refl, inl, inr, ℕ, ◌+◌, List, [], ◌∷◌, ◌++◌, length, get_or, take, drop, sym, ◌∙◌, ap, subst, arith, append_assoc, length-append, take-append-drop, Option, Some, None, option_map}
+use Rattle.cw_disk.specs.Told.{ReadsOf}
 use Rattle.std.proofs.lemmas.List.{drop_at, drop_more, take_all, drop_all, append-nil, take-append-le}
-use Rattle.cw_disk.specs.Disk.{written, Torn, Cut, Follows, Only, Elapses, Adds}
+use Rattle.cw_disk.specs.Disk.{written, Torn, Cut, Follows, Only, Elapses, AddsOf}
 use Rattle.cw_disk.proofs.Moments.{adds_none, adds_weaker, adds_then, adds_call, adds_nothing}
-use Rattle.cw_log.specs.Calls.{Reads, IsGated}
+use Rattle.cw_log.specs.Calls.{IsGated}
 
 -- the told content after a step
 pub told_after : {A : Type 0} (f : A → A) (old new : Option A) (x y : A) → new ≡ option_map f old → old ≡ Some x → f x ≡ y → new ≡ Some y
@@ -22,16 +23,16 @@ cut_same to file = record { before = refl; no_shorter = omega arith; no_longer =
 module _ {D : Type 0} (holds : D → Option (List ℕ)) (may_leave : D → List ℕ → Type 0) (moment : D → ℕ) (left_since : D → ℕ → List ℕ → Type 0) (count reserved : D → ℕ)
     (counts_now : (disk : D) (t : ℕ) (image : List ℕ) → t ≤ moment disk → may_leave disk image → left_since disk t image) where
   abbrev Read : D → D → Type 0
-  Read = Reads holds may_leave moment left_since count reserved
+  Read = ReadsOf holds may_leave moment left_since count reserved
 
-  pub reads_none : (disk : D) → Reads holds may_leave moment left_since count reserved disk disk
+  pub reads_none : (disk : D) → ReadsOf holds may_leave moment left_since count reserved disk disk
   reads_none disk = record { same = refl; fewer = λ image left. left; adds = adds_none moment left_since disk (λ image. ⊥); later = omega arith; room = omega arith }
 
   pub reads_call : (old new : D) → holds new ≡ holds old → ((image : List ℕ) → may_leave new image → may_leave old image) → Elapses (moment old) (moment new) (left_since old) (left_since new) (may_leave new)
-      → count old ≤ count new → reserved old ≤ reserved new → Reads holds may_leave moment left_since count reserved old new
+      → count old ≤ count new → reserved old ≤ reserved new → ReadsOf holds may_leave moment left_since count reserved old new
   reads_call old new same fewer time later room = record { same = same; fewer = fewer; adds = adds_nothing moment left_since may_leave counts_now old new (λ image. ⊥) time fewer; later = later; room = room }
 
-  pub reads_then : (old mid new : D) → Reads holds may_leave moment left_since count reserved old mid → Reads holds may_leave moment left_since count reserved mid new → Reads holds may_leave moment left_since count reserved old new
+  pub reads_then : (old mid new : D) → ReadsOf holds may_leave moment left_since count reserved old mid → ReadsOf holds may_leave moment left_since count reserved mid new → ReadsOf holds may_leave moment left_since count reserved old new
   reads_then old mid new first second = record {
     same = second.same ∙ first.same;
     fewer = λ image left. first.fewer image (second.fewer image left);
@@ -41,12 +42,12 @@ module _ {D : Type 0} (holds : D → Option (List ℕ)) (may_leave : D → List 
   }
 
   -- what reads adds nothing, whatever is asked of what is added
-  pub reads_adds : (old new : D) (P : List ℕ → Type 0) → Reads holds may_leave moment left_since count reserved old new → Adds moment left_since old new P
+  pub reads_adds : (old new : D) (P : List ℕ → Type 0) → ReadsOf holds may_leave moment left_since count reserved old new → AddsOf moment left_since old new P
   reads_adds old new P reads = adds_weaker moment left_since old new (λ image. ⊥) P reads.adds (λ image none. absurd none)
 
   -- a call that steps from what is settled, and a sync behind it
   pub steps_adds : (old new : D) (P : List ℕ → Type 0) → Elapses (moment old) (moment new) (left_since old) (left_since new) (may_leave new) → ((image : List ℕ) → may_leave new image → P image)
-      → (end : D) → ((image : List ℕ) → may_leave end image → may_leave new image) → Elapses (moment new) (moment end) (left_since new) (left_since end) (may_leave end) → Adds moment left_since old end P
+      → (end : D) → ((image : List ℕ) → may_leave end image → may_leave new image) → Elapses (moment new) (moment end) (left_since new) (left_since end) (may_leave end) → AddsOf moment left_since old end P
   steps_adds old new P time here end fewer time' = adds_then moment left_since old new end P (adds_call moment left_since may_leave old new P time here) (adds_nothing moment left_since may_leave counts_now new end P time' fewer)
 
 -- an image of a disk on which nothing was pending, after a step

@@ -7,3 +7,4 @@ pub mod Begun
 pub mod Opened
 pub mod Appended
 pub mod OneReading
+pub mod Sides

@@ -1,15 +1,6 @@
 -- What a step of a log does to its disk.
 use Rattle.std.specs.Prelude.{◌≡◌, ◌≤◌, ◌⊎◌, ◌+◌, ℕ, List, ◌∷◌, ◌++◌, take, drop, length, Option, Some, None}
-use Rattle.cw_disk.specs.Disk.{Adds}
 use Rattle.cw_log.specs.declared.window.Window.{Window}
-
--- calls that read: the same content, no new image, no fewer faults, no less room
-pub record Reads {D : Type 0} (holds : D → Option (List ℕ)) (may_leave : D → List ℕ → Type 0) (moment : D → ℕ) (left_since : D → ℕ → List ℕ → Type 0) (count reserved : D → ℕ) (old new : D) : Type 0 where
-  pub same : holds new ≡ holds old
-  pub fewer : (image : List ℕ) → may_leave new image → may_leave old image
-  pub adds : Adds moment left_since old new (λ image. ⊥)
-  pub later : count old ≤ count new
-  pub room : reserved old ≤ reserved new
 
 -- the file as it was up to its closed gate, or the gate as whatever a torn byte is, with the whole tail behind it
 abbrev pub IsGated : ℕ → List ℕ → List ℕ → List ℕ → Type 0
@@ -28,4 +19,5 @@ pub record IsWindow (file : List ℕ) (window : Window) : Type 0 where
 -- what a log holds in memory of its file, if anything, is a window on it
 abbrev pub IsAhead : Option (List ℕ) → Option Window → Type 0
 IsAhead told None = Unit {0}
-IsAhead told (Some window) = ((file : List ℕ) → told ≡ Some file → IsWindow file window) × (window.filled ≤ length window.bytes.items)
+IsAhead told (Some window) = ((file : List ℕ) → told ≡ Some file → IsWindow file window) ×
+    (window.filled ≤ length window.bytes.items)

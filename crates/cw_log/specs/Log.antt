@@ -1,6 +1,7 @@
--- Which list of bodies a log file stands for (this project's own format). A header of 16 bytes: a gate, `CWL`, version 1, the kind
--- of the log, two bytes 0, the side number. Then frames: a gate, the length in four bytes, the body. A gate is closed where it is 0.
--- The list ends at the first closed gate, after which nothing counts. Numbers are big-endian.
+-- Which list of bodies a log file stands for (this project's own format). A header of 16 bytes: a gate, `CWL`,
+-- version 1, the kind of the log, two bytes 0, the side number. Then frames: a gate, the length in four bytes,
+-- the body. A gate is closed where it is 0. The list ends at the first closed gate, after which nothing counts.
+-- Numbers are big-endian.
 use Rattle.std.specs.Prelude.{◌≡◌, ◌≤◌, ◌<◌, ◌⊎◌, ◌==◌, ◌+◌, ◌-◌, ◌^◌, ℕ, zero, suc, List, [], ◌∷◌, ◌++◌, length, take, drop, map, not, Option, Some, None, if◌then◌else◌, nat_lt, slice_index_or}
 use Rattle.std.specs.Int.{w32, w64, to_be_bytes, from_be_bytes}
 use Rattle.cw_types.specs.declared.logs.LogName.{LogName}
@@ -38,10 +39,25 @@ pub record IsBody (body : List ℕ) : Type 0 where
 -- frames with open gates, whatever byte above 0 an open gate is
 abbrev pub AreFrames : List (List ℕ) → List ℕ → Type 0
 AreFrames [] bytes = bytes ≡ []
-AreFrames (body ∷ bodies) bytes = (gate : ℕ) × (rest : List ℕ) × IsBody body × (bytes ≡ suc gate ∷ field body ++ rest) × AreFrames bodies rest
+AreFrames (body ∷ bodies) bytes = (gate : ℕ) × (rest : List ℕ) × IsBody body × (bytes ≡ suc gate ∷ field body ++ rest) ×
+    AreFrames bodies rest
 
 abbrev pub byte_at : List ℕ → ℕ → ℕ
 byte_at file i = slice_index_or file i 0
+
+-- the side number, which bytes 8 to 15 of a header are
+abbrev pub number_of : List ℕ → ℕ
+number_of file = from_be_bytes w64 (map (byte_at file) (8 ∷ 9 ∷ 10 ∷ 11 ∷ 12 ∷ 13 ∷ 14 ∷ 15 ∷ []))
+
+-- the file is made, and this is its side number
+pub record IsSide (number : ℕ) (file : List ℕ) : Type 0 where
+  pub long : 2 ≤ length file
+  pub «open» : 0 < byte_at file 0
+  pub side : number_of file ≡ number
+
+-- the other file has the same header
+abbrev pub HasHead : List ℕ → List ℕ → Type 0
+HasHead file other = take 16 other ≡ take 16 file
 
 -- the first harm of 16 bytes of header
 abbrev pub harm_of_head : ℕ → List ℕ → Option Harm
@@ -140,10 +156,12 @@ abbrev pub places_from : ℕ → List (List ℕ) → List Place
 places_from at [] = []
 places_from at (body ∷ bodies) = record { at = at; length = length body } ∷ places_from (at + (5 + length body)) bodies
 
--- where the frames lie that begin here, up to a gate: a body goes from five bytes behind its frame's begin to the next begin, or to the gate
+-- where the frames lie that begin here, up to a gate: a body goes from five bytes behind its frame's begin to
+-- the next begin, or to the gate
 abbrev pub places_before : ℕ → List ℕ → List Place
 places_before gate [] = []
-places_before gate (start ∷ starts) = record { at = start; length = slice_index_or starts 0 gate - (start + 5) } ∷ places_before gate starts
+places_before gate (start ∷ starts) =
+    record { at = start; length = slice_index_or starts 0 gate - (start + 5) } ∷ places_before gate starts
 
 -- where these frames lie
 abbrev pub places_of : Frames → List Place
@@ -157,6 +175,23 @@ bodies_at places file = map (λ place. take place.length (drop (place.at + 5) fi
 abbrev pub new_log : ℕ → List ℕ
 new_log kind = 1 ∷ (header kind 1 ++ 0 ∷ [])
 
+-- a made file, and the same up to and with its first closed gate
+pub record EndsAtGate (file : List ℕ) (now : Option (List ℕ)) : Type 0 where
+  pub bodies : List (List ℕ)
+  pub head : List ℕ
+  pub front : List ℕ
+  pub rest : List ℕ
+  pub size : length head ≡ 16
+  pub frames : AreFrames bodies front
+  pub split : file ≡ head ++ front ++ 0 ∷ rest
+  pub now_is : now ≡ Some (head ++ front ++ 0 ∷ [])
+
+-- What an opened log holds, and its side number: a new log of its kind with the number 1 where the file was unmade,
+-- else the file up to and with its first closed gate.
+abbrev pub OpensAs : ℕ → ℕ → List ℕ → Option (List ℕ) → Type 0
+OpensAs kind number file now =
+    (IsUnmade file × (now ≡ Some (new_log kind)) × (number ≡ 1)) ⊎ (IsSide number file × EndsAtGate file now)
+
 -- what each cause says
 abbrev pub OnCause : (damaged : ℕ → Harm → Type 0) → (failed memory : Type 0) → OpenCause → Type 0
 OnCause damaged failed memory (Damaged at harm) = damaged at harm
@@ -167,7 +202,8 @@ OnCause damaged failed memory Memory = memory
 abbrev pub IsFrame : Frame → List ℕ → Type 0
 IsFrame Closed bytes = (rest : List ℕ) × (bytes ≡ 0 ∷ rest)
 IsFrame Broken bytes = IsBroken bytes
-IsFrame (Open n) bytes = (gate : ℕ) × (rest : List ℕ) × (bytes ≡ suc gate ∷ (to_be_bytes w32 n ++ rest)) × (0 < n) × (n < 2 ^ 32) × (n ≤ length rest)
+IsFrame (Open n) bytes = (gate : ℕ) × (rest : List ℕ) × (bytes ≡ suc gate ∷ (to_be_bytes w32 n ++ rest)) × (0 < n) ×
+    (n < 2 ^ 32) × (n ≤ length rest)
 
 -- the frames from the header up to this place, which are whole, and where they lie
 pub record Begins (at : ℕ) (places : List Place) (file : List ℕ) : Type 0 where

@@ -2,8 +2,9 @@
 use Rattle.std.specs.Prelude.{◌≡◌, ◌≤◌, ◌<◌, ◌+◌, ◌-◌, ◌^◌, ◌++◌, ◌∷◌, [], min, ℕ, List, Option, Some, None, Bool, false, length, take, vec_capacity, vec_len, Vec}
 use Rattle.std.specs.declared.alloc.Global.{Global}
 use Rattle.cw_disk.specs.Disk.{Only}
+use Rattle.cw_types.specs.Faults.{Rose}
 use Rattle.cw_log.specs.Calls.{IsAhead}
-use Rattle.cw_log.specs.Log.{IsHead, Begins, StandsFor, bodies_at, places_of}
+use Rattle.cw_log.specs.Log.{IsHead, Begins, StandsFor, bodies_at, number_of, places_of}
 use Rattle.cw_log.specs.declared.place.Place.{Place}
 use Rattle.cw_log.specs.declared.place.Frames.{Frames}
 use Rattle.cw_log.specs.declared.window.Window.{Window}
@@ -18,6 +19,8 @@ pub record LogState (D : Type 0) : Type 0 where
   pub disk : D
   -- the number of its kind
   pub kind : ℕ
+  -- its side number
+  pub number : ℕ
   -- the list, where the disk tells its content
   pub bodies : Option (List (List ℕ))
   -- how many bodies, how many bytes up to and with the closed gate, and how many bytes it may have
@@ -34,6 +37,7 @@ pub record LogState (D : Type 0) : Type 0 where
 -- the same log: the list, its numbers and its state, with another disk and more or less room
 pub record IsSameLog {D : Type 0} (old new : LogState D) : Type 0 where
   pub kind : new.kind ≡ old.kind
+  pub number : new.number ≡ old.number
   pub bodies : new.bodies ≡ old.bodies
   pub count : new.count ≡ old.count
   pub length : new.length ≡ old.length
@@ -44,6 +48,7 @@ pub record IsSameLog {D : Type 0} (old new : LogState D) : Type 0 where
 -- the same list, its numbers and its state; the last failure may be another
 pub record HasSameList {D : Type 0} (old new : LogState D) : Type 0 where
   pub kind : new.kind ≡ old.kind
+  pub number : new.number ≡ old.number
   pub bodies : new.bodies ≡ old.bodies
   pub count : new.count ≡ old.count
   pub length : new.length ≡ old.length
@@ -55,6 +60,17 @@ pub record HasSameList {D : Type 0} (old new : LogState D) : Type 0 where
 pub record IsAppendable {D : Type 0} (body : ℕ) (log : LogState D) : Type 0 where
   pub alive : log.shut ≡ false
   pub fits : log.length + (body + 5) ≤ log.limit
+
+-- the same of any log
+pub record IsFitting (body : ℕ) (shut : Bool) (bytes limit : ℕ) : Type 0 where
+  pub alive : shut ≡ false
+  pub fits : bytes + (body + 5) ≤ limit
+
+-- the last failure is that of a side whose disk's count of faults rose to what is told
+pub record FailedOn (before now : ℕ → ℕ) (last : Option (ℕ × ℕ)) : Type 0 where
+  pub side : ℕ
+  pub last_is : last ≡ Some (side, now side)
+  pub rose : Rose (before side) (now side)
 
 -- the file begins with the header of this kind and with the frames at these places
 pub record IsKept (kind gate : ℕ) (places : List Place) (file : List ℕ) : Type 0 where
@@ -98,7 +114,8 @@ pub record KeepsFrames (old new : Frames) : Type 0 where
   pub room : HasPlace old.known → HasPlace new.known
 
 -- there is room for a body of so many bytes, as far as numbers go
-pub record HasRoom {D : Type 0} (reserved : D → ℕ) (disk : D) (ready : ℕ) (frames : Frames) (tail : Vec ℕ Global) : Type 0 where
+pub record HasRoom {D : Type 0} (reserved : D → ℕ) (disk : D) (ready : ℕ) (frames : Frames) (tail : Vec ℕ Global)
+    : Type 0 where
   pub frame : min (ready + 5) (2 ^ 64 - 1) ≤ vec_capacity tail
   pub place : HasPlace frames.known
   pub bytes : min (frames.gate + 1 + (ready + 5)) (2 ^ 64 - 1) ≤ reserved disk
@@ -121,10 +138,13 @@ cause_of_read reads.Failed = opens.Failed
 cause_of_read reads.Memory = opens.Memory
 
 -- what a log keeps of itself
-pub record IsLog {D : Type 0} (holds : D → Option (List ℕ)) (may_leave : D → List ℕ → Type 0) (reserved : D → ℕ) (disk : D) (kind ready : ℕ) (frames : Frames) (tail : Vec ℕ Global) (ahead : Option Window) (shut : Bool) : Type 0 where
+pub record IsLog {D : Type 0} (holds : D → Option (List ℕ)) (may_leave : D → List ℕ → Type 0) (reserved : D → ℕ)
+    (disk : D) (kind number ready : ℕ) (frames : Frames) (tail : Vec ℕ Global) (ahead : Option Window) (shut : Bool)
+    : Type 0 where
   pub kept : (file : List ℕ) → holds disk ≡ Some file → IsKept kind frames.gate (places_of frames) file
   pub rest : shut ≡ false → (file : List ℕ) → holds disk ≡ Some file → IsRest frames.gate (may_leave disk) file
   pub known : (file : List ℕ) → holds disk ≡ Some file → IsKnown frames.known frames.starts.items
+  pub side : (file : List ℕ) → holds disk ≡ Some file → number_of file ≡ number
   pub low : 16 ≤ frames.gate
   pub high : frames.gate + 1 < 2 ^ 64
   pub room : 0 < ready → HasRoom reserved disk ready frames tail

@@ -1,8 +1,9 @@
 // Calls of a disk, each with what it does to the images that a stop may leave.
 ghost use Rattle.std.specs.Prelude.{◌≡◌, ◌≤◌, ◌<◌, ◌+◌, ◌-◌, ◌^◌, List, ℕ, Some, length, take, drop, min, IfOk, IfErr, OnOk, OnErr, is_some, option_map, ◌++◌, ◌∷◌};
-ghost use Rattle.cw_disk.specs.Disk.{Only, Torn, Cut, Adds, written};
+ghost use Rattle.cw_disk.specs.Told.{Adds, Reads, Told};
+ghost use Rattle.cw_disk.specs.Disk.{Only, Torn, Cut, written};
 ghost use Rattle.cw_types.specs.Faults.{Rose};
-ghost use Rattle.cw_log.specs.Calls.{Reads, IsGated};
+ghost use Rattle.cw_log.specs.Calls.{IsGated};
 ghost use Rattle.cw_log.specs.State.{OnReadFault};
 
 use crate::ReadFault;
@@ -10,16 +11,16 @@ use cw_disk::{Disk, Failed, Memory};
 
 // From an `Ok` on a stop leaves what a read gives.
 pub(crate) fn flush<D: Disk>(disk: &mut D) -> Result<(), Failed>
-    ensures durable { OnOk result ((file : List ℕ) → D.holds disk.old ≡ Some file → Only file (D.may_leave disk.new)) }
-    ensures reads { Reads D.holds D.may_leave D.moment D.left_since D.count D.reserved disk.old disk.new }
+    ensures durable { OnOk result (Told D.Disk disk.old (λ file. Only file (D.may_leave disk.new))) }
+    ensures reads { Reads D.Disk disk.old disk.new }
     ensures cause { OnErr result (Rose (D.count disk.old) (D.count disk.new)) }
 {
     disk.sync()
 }
 
 pub(crate) fn length_of<D: Disk>(disk: &mut D) -> Result<u64, Failed>
-    ensures length { IfOk result (λ n. (file : List ℕ) → D.holds disk.old ≡ Some file → n ≡ length file) }
-    ensures reads { Reads D.holds D.may_leave D.moment D.left_since D.count D.reserved disk.old disk.new }
+    ensures length { IfOk result (λ n. Told D.Disk disk.old (λ file. n ≡ length file)) }
+    ensures reads { Reads D.Disk disk.old disk.new }
     ensures cause { OnErr result (Rose (D.count disk.old) (D.count disk.new)) }
 {
     disk.len()
@@ -28,9 +29,9 @@ pub(crate) fn length_of<D: Disk>(disk: &mut D) -> Result<u64, Failed>
 // Fills `into` from `at` on, as far as the disk has bytes.
 pub(crate) fn read<D: Disk>(disk: &mut D, at: u64, into: &mut [u8]) -> Result<usize, Failed>
     ensures within { IfOk result (λ n. n ≤ length into.old) }
-    ensures bytes { IfOk result (λ n. (file : List ℕ) → D.holds disk.old ≡ Some file →
-        (n ≡ min (length into.old) (length file - at)) × (take n into.new ≡ take n (drop at file))) }
-    ensures reads { Reads D.holds D.may_leave D.moment D.left_since D.count D.reserved disk.old disk.new }
+    ensures bytes { IfOk result (λ n. Told D.Disk disk.old (λ file. (n ≡ min (length into.old) (length file - at)) ×
+        (take n into.new ≡ take n (drop at file)))) }
+    ensures reads { Reads D.Disk disk.old disk.new }
     ensures cause { OnErr result (Rose (D.count disk.old) (D.count disk.new)) }
 {
     disk.read_at(at, into)
@@ -43,8 +44,9 @@ pub(crate) fn read_part<D: Disk>(
     size: usize,
     into: &mut Vec<u8>,
 ) -> Result<(), ReadFault>
-    ensures bytes { OnOk result ((file : List ℕ) → D.holds disk.old ≡ Some file → at + size ≤ length file → into.new.items ≡ take size (drop at file)) }
-    ensures reads { Reads D.holds D.may_leave D.moment D.left_since D.count D.reserved disk.old disk.new }
+    ensures bytes { OnOk result (Told D.Disk disk.old (λ file. at + size ≤ length file → into.new.items ≡
+        take size (drop at file))) }
+    ensures reads { Reads D.Disk disk.old disk.new }
     ensures cause { IfErr result (OnReadFault (Rose (D.count disk.old) (D.count disk.new)) (Unit {0})) }
 {
     into.resize(size, 0)?;
@@ -56,7 +58,7 @@ pub(crate) fn read_part<D: Disk>(
 // Takes the memory of writes up to this length.
 pub(crate) fn prepare<D: Disk>(disk: &mut D, to: u64) -> Result<(), Memory>
     ensures room { OnOk result (to ≤ D.reserved disk.new) }
-    ensures reads { Reads D.holds D.may_leave D.moment D.left_since D.count D.reserved disk.old disk.new }
+    ensures reads { Reads D.Disk disk.old disk.new }
     ensures count { D.count disk.new ≡ D.count disk.old }
 {
     disk.reserve(to)
@@ -64,14 +66,15 @@ pub(crate) fn prepare<D: Disk>(disk: &mut D, to: u64) -> Result<(), Memory>
 
 // A write and a sync over a disk on which nothing is pending.
 pub(crate) fn put<D: Disk>(disk: &mut D, at: u64, from: &[u8]) -> Result<(), Failed>
-    requires start { (file : List ℕ) → D.holds disk.old ≡ Some file → at ≤ length file }
-    requires settled { (file : List ℕ) → D.holds disk.old ≡ Some file → Only file (D.may_leave disk.old) }
+    requires start { Told D.Disk disk.old (λ file. at ≤ length file) }
+    requires settled { Told D.Disk disk.old (λ file. Only file (D.may_leave disk.old)) }
     requires room { at + length from.now ≤ D.reserved disk.old }
     ensures done { OnOk result (D.holds disk.new ≡ option_map (λ file. written file at from.now) (D.holds disk.old)) }
-    ensures durable { OnOk result ((file : List ℕ) → D.holds disk.new ≡ Some file → Only file (D.may_leave disk.new)) }
+    ensures durable { OnOk result (Told D.Disk disk.new (λ file. Only file (D.may_leave disk.new))) }
     ensures told { is_some (D.holds disk.new) ≡ is_some (D.holds disk.old) }
-    ensures left { (file : List ℕ) → D.holds disk.old ≡ Some file → (image : List ℕ) → D.may_leave disk.new image → Torn at (length from.now) file image }
-    ensures adds { (file : List ℕ) → D.holds disk.old ≡ Some file → Adds D.moment D.left_since disk.old disk.new (Torn at (length from.now) file) }
+    ensures left { Told D.Disk disk.old (λ file. (image : List ℕ) → D.may_leave disk.new image →
+        Torn at (length from.now) file image) }
+    ensures adds { Told D.Disk disk.old (λ file. Adds D.Disk disk.old disk.new (Torn at (length from.now) file)) }
     ensures room { D.reserved disk.old ≤ D.reserved disk.new }
     ensures later { D.count disk.old ≤ D.count disk.new }
     ensures cause { OnErr result (Rose (D.count disk.old) (D.count disk.new)) }
@@ -82,13 +85,13 @@ pub(crate) fn put<D: Disk>(disk: &mut D, at: u64, from: &[u8]) -> Result<(), Fai
 
 // A cut and a sync over a disk on which nothing is pending.
 pub(crate) fn shorten<D: Disk>(disk: &mut D, to: u64) -> Result<(), Failed>
-    requires end { (file : List ℕ) → D.holds disk.old ≡ Some file → to ≤ length file }
-    requires settled { (file : List ℕ) → D.holds disk.old ≡ Some file → Only file (D.may_leave disk.old) }
+    requires end { Told D.Disk disk.old (λ file. to ≤ length file) }
+    requires settled { Told D.Disk disk.old (λ file. Only file (D.may_leave disk.old)) }
     ensures done { OnOk result (D.holds disk.new ≡ option_map (λ file. take to file) (D.holds disk.old)) }
-    ensures durable { OnOk result ((file : List ℕ) → D.holds disk.new ≡ Some file → Only file (D.may_leave disk.new)) }
+    ensures durable { OnOk result (Told D.Disk disk.new (λ file. Only file (D.may_leave disk.new))) }
     ensures told { is_some (D.holds disk.new) ≡ is_some (D.holds disk.old) }
-    ensures left { (file : List ℕ) → D.holds disk.old ≡ Some file → (image : List ℕ) → D.may_leave disk.new image → Cut to file image }
-    ensures adds { (file : List ℕ) → D.holds disk.old ≡ Some file → Adds D.moment D.left_since disk.old disk.new (Cut to file) }
+    ensures left { Told D.Disk disk.old (λ file. (image : List ℕ) → D.may_leave disk.new image → Cut to file image) }
+    ensures adds { Told D.Disk disk.old (λ file. Adds D.Disk disk.old disk.new (Cut to file)) }
     ensures room { D.reserved disk.old ≤ D.reserved disk.new }
     ensures later { D.count disk.old ≤ D.count disk.new }
     ensures cause { OnErr result (Rose (D.count disk.old) (D.count disk.new)) }
@@ -99,15 +102,17 @@ pub(crate) fn shorten<D: Disk>(disk: &mut D, to: u64) -> Result<(), Failed>
 
 // What stands behind a closed gate, which is the last byte, and then the gate open: two syncs.
 pub(crate) fn open_gate<D: Disk>(disk: &mut D, gate: u64, tail: &[u8]) -> Result<(), Failed>
-    requires start { (file : List ℕ) → D.holds disk.old ≡ Some file → gate + 1 ≡ length file }
-    requires settled { (file : List ℕ) → D.holds disk.old ≡ Some file → Only file (D.may_leave disk.old) }
+    requires start { Told D.Disk disk.old (λ file. gate + 1 ≡ length file) }
+    requires settled { Told D.Disk disk.old (λ file. Only file (D.may_leave disk.old)) }
     requires room { gate + 1 + length tail.now ≤ D.reserved disk.old }
     requires fits { gate + 1 + length tail.now < 2 ^ 64 }
-    ensures done { OnOk result (D.holds disk.new ≡ option_map (λ file. take gate file ++ 1 ∷ tail.now) (D.holds disk.old)) }
-    ensures durable { OnOk result ((file : List ℕ) → D.holds disk.new ≡ Some file → Only file (D.may_leave disk.new)) }
+    ensures done { OnOk result (D.holds disk.new ≡ option_map
+        (λ file. take gate file ++ 1 ∷ tail.now) (D.holds disk.old)) }
+    ensures durable { OnOk result (Told D.Disk disk.new (λ file. Only file (D.may_leave disk.new))) }
     ensures told { is_some (D.holds disk.new) ≡ is_some (D.holds disk.old) }
-    ensures left { (file : List ℕ) → D.holds disk.old ≡ Some file → (image : List ℕ) → D.may_leave disk.new image → IsGated gate file tail.now image }
-    ensures adds { (file : List ℕ) → D.holds disk.old ≡ Some file → Adds D.moment D.left_since disk.old disk.new (IsGated gate file tail.now) }
+    ensures left { Told D.Disk disk.old (λ file. (image : List ℕ) → D.may_leave disk.new image →
+        IsGated gate file tail.now image) }
+    ensures adds { Told D.Disk disk.old (λ file. Adds D.Disk disk.old disk.new (IsGated gate file tail.now)) }
     ensures room { D.reserved disk.old ≤ D.reserved disk.new }
     ensures later { D.count disk.old ≤ D.count disk.new }
     ensures cause { OnErr result (Rose (D.count disk.old) (D.count disk.new)) }

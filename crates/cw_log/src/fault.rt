@@ -1,6 +1,7 @@
 // What may be wrong with a log, and with a call of it.
 use cw_disk::Failed;
 use std::alloc::{AllocError, AllocFailed};
+use thiserror::Error;
 
 /// What may be wrong with the bytes of a log, in the order in which it is looked for on one disk; the
 /// last two are found by whoever reads the bodies.
@@ -25,9 +26,10 @@ pub enum Harm {
 }
 
 /// Why a log was not opened.
-#[derive(Clone, Copy, Debug, PartialEq, Eq, Drop)]
+#[derive(Clone, Copy, Debug, PartialEq, Eq, Drop, Error)]
 pub enum OpenCause {
     /// The first harm of the file, and the place of the gate that it is about.
+    #[error("damaged at byte {at}: {harm:?}")]
     Damaged {
         /// The place of the gate.
         at: u64,
@@ -35,8 +37,10 @@ pub enum OpenCause {
         harm: Harm,
     },
     /// The disk failed: its count rose.
+    #[error("the disk failed")]
     Failed,
     /// Want of memory.
+    #[error("out of memory")]
     Memory,
 }
 
@@ -77,11 +81,13 @@ impl From<ReadFault> for OpenCause {
 }
 
 /// Why a body was not appended.
-#[derive(Clone, Copy, Debug, PartialEq, Eq, Drop)]
+#[derive(Clone, Copy, Debug, PartialEq, Eq, Drop, Error)]
 pub enum AppendFault {
     /// The disk failed: its count rose. A stop may leave the list with the body or without it.
+    #[error("the disk failed")]
     Failed,
     /// The log has no room: `length + frame` passes its limit.
+    #[error("a frame of {frame} bytes has no room behind {length}")]
     Full {
         /// The bytes of the log, up to and with its closed gate.
         length: u64,
@@ -89,8 +95,10 @@ pub enum AppendFault {
         frame: u64,
     },
     /// An earlier append of this log has failed.
+    #[error("an earlier append has failed")]
     Shut,
     /// Want of memory.
+    #[error("out of memory")]
     Memory,
 }
 
@@ -117,11 +125,13 @@ impl From<AllocError> for AppendFault {
 }
 
 /// Why a body was not read.
-#[derive(Clone, Copy, Debug, PartialEq, Eq, Drop)]
+#[derive(Clone, Copy, Debug, PartialEq, Eq, Drop, Error)]
 pub enum ReadFault {
     /// The disk failed: its count rose.
+    #[error("the disk failed")]
     Failed,
     /// Want of memory.
+    #[error("out of memory")]
     Memory,
 }
 

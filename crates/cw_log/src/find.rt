@@ -1,7 +1,8 @@
 // Looking for the frames of a log, and reading one body.
 ghost use Rattle.std.specs.Prelude.{◌≡◌, ◌≤◌, ◌<◌, ◌+◌, ◌^◌, [], List, ℕ, Some, length, slice_index_or, IfOk, IfErr, OnOk};
+ghost use Rattle.cw_disk.specs.Told.{Reads, Told};
 ghost use Rattle.cw_types.specs.Faults.{Rose};
-ghost use Rattle.cw_log.specs.Calls.{Reads, IsAhead};
+ghost use Rattle.cw_log.specs.Calls.{IsAhead};
 ghost use Rattle.cw_log.specs.Log.{Begins, bodies_at, places_before, places_of};
 ghost use Rattle.cw_log.specs.State.{IsFound, IsKnown, KeepsFrames, OnReadFault};
 
@@ -14,9 +15,9 @@ use std::alloc::Global;
 
 // Where the first frames of a file begin, so many. Fewer come only where somebody else changed the file.
 fn starts_of<D: Disk>(alloc: Global, disk: &mut D, count: u64) -> Result<Vec<u64>, ReadFault>
-    ensures starts { IfOk result (λ found. (file : List ℕ) → D.holds disk.old ≡ Some file →
-        (gate : ℕ) (starts : List ℕ) → Begins gate (places_before gate starts) file → length starts ≡ count → found.items ≡ starts) }
-    ensures reads { Reads D.holds D.may_leave D.moment D.left_since D.count D.reserved disk.old disk.new }
+    ensures starts { IfOk result (λ found. Told D.Disk disk.old (λ file. (gate : ℕ) (starts : List ℕ) →
+        Begins gate (places_before gate starts) file → length starts ≡ count → found.items ≡ starts)) }
+    ensures reads { Reads D.Disk disk.old disk.new }
     ensures cause { IfErr result (OnReadFault (Rose (D.count disk.old) (D.count disk.new)) (Unit {0})) }
 {
     let size = length_of(disk)?;
@@ -38,11 +39,12 @@ fn starts_of<D: Disk>(alloc: Global, disk: &mut D, count: u64) -> Result<Vec<u64
 
 // Looks for the frames of a log, where that wasn't done yet.
 fn find<D: Disk>(alloc: Global, disk: &mut D, frames: &mut Frames) -> Result<(), ReadFault>
-    requires known { (file : List ℕ) → D.holds disk.old ≡ Some file → Begins frames.old.gate (places_of frames.old) file × IsKnown frames.old.known frames.old.starts.items }
-    ensures found { OnOk result ((file : List ℕ) → D.holds disk.old ≡ Some file → IsFound frames.new.known frames.new.starts.items) }
-    ensures known { (file : List ℕ) → D.holds disk.old ≡ Some file → IsKnown frames.new.known frames.new.starts.items }
+    requires known { Told D.Disk disk.old (λ file. Begins frames.old.gate (places_of frames.old) file ×
+        IsKnown frames.old.known frames.old.starts.items) }
+    ensures found { OnOk result (Told D.Disk disk.old (λ file. IsFound frames.new.known frames.new.starts.items)) }
+    ensures known { Told D.Disk disk.old (λ file. IsKnown frames.new.known frames.new.starts.items) }
     ensures keeps { KeepsFrames frames.old frames.new }
-    ensures reads { Reads D.holds D.may_leave D.moment D.left_since D.count D.reserved disk.old disk.new }
+    ensures reads { Reads D.Disk disk.old disk.new }
     ensures cause { IfErr result (OnReadFault (Rose (D.count disk.old) (D.count disk.new)) (Unit {0})) }
 {
     if frames.known.is_some() {
@@ -65,12 +67,14 @@ pub(crate) fn read_one<D: Disk>(
     requires within { index < length frames.old.starts.items }
     requires high { frames.old.gate < 2 ^ 64 }
     requires ahead { IsAhead (D.holds disk.old) ahead.old }
-    requires known { (file : List ℕ) → D.holds disk.old ≡ Some file → Begins frames.old.gate (places_of frames.old) file × IsKnown frames.old.known frames.old.starts.items }
-    ensures body { IfOk result (λ body. (file : List ℕ) → D.holds disk.old ≡ Some file → body.items ≡ slice_index_or (bodies_at (places_of frames.old) file) index []) }
+    requires known { Told D.Disk disk.old (λ file. Begins frames.old.gate (places_of frames.old) file ×
+        IsKnown frames.old.known frames.old.starts.items) }
+    ensures body { IfOk result (λ body. Told D.Disk disk.old (λ file. body.items ≡
+        slice_index_or (bodies_at (places_of frames.old) file) index [])) }
     ensures ahead { IsAhead (D.holds disk.old) ahead.new }
-    ensures known { (file : List ℕ) → D.holds disk.old ≡ Some file → IsKnown frames.new.known frames.new.starts.items }
+    ensures known { Told D.Disk disk.old (λ file. IsKnown frames.new.known frames.new.starts.items) }
     ensures keeps { KeepsFrames frames.old frames.new }
-    ensures reads { Reads D.holds D.may_leave D.moment D.left_since D.count D.reserved disk.old disk.new }
+    ensures reads { Reads D.Disk disk.old disk.new }
     ensures cause { IfErr result (OnReadFault (Rose (D.count disk.old) (D.count disk.new)) (Unit {0})) }
 {
     find(alloc, disk, frames)?;

@@ -1,6 +1,7 @@
 // A frame that is put behind a closed gate.
 ghost use Rattle.std.specs.Prelude.{◌≡◌, ◌≤◌, ◌<◌, ◌+◌, ◌^◌, List, ℕ, Some, [], ◌∷◌, ◌++◌, length, take, OnOk, OnErr, is_some, option_map, vec_capacity};
-ghost use Rattle.cw_disk.specs.Disk.{Only, Adds};
+ghost use Rattle.cw_disk.specs.Told.{Adds, Told};
+ghost use Rattle.cw_disk.specs.Disk.{Only};
 ghost use Rattle.cw_types.specs.Faults.{Rose};
 ghost use Rattle.cw_log.specs.Calls.{IsGated};
 ghost use Rattle.cw_log.specs.Log.{field};
@@ -33,17 +34,20 @@ pub(crate) fn write_frame<D: Disk>(
     tail: &mut Vec<u8>,
     body: &[u8],
 ) -> Result<(), Failed>
-    requires start { (file : List ℕ) → D.holds disk.old ≡ Some file → gate + 1 ≡ length file }
-    requires settled { (file : List ℕ) → D.holds disk.old ≡ Some file → Only file (D.may_leave disk.old) }
+    requires start { Told D.Disk disk.old (λ file. gate + 1 ≡ length file) }
+    requires settled { Told D.Disk disk.old (λ file. Only file (D.may_leave disk.old)) }
     requires few { length body.now < 2 ^ 32 }
     requires frame { length body.now + 5 ≤ vec_capacity tail.old }
     requires bytes { gate + 1 + (length body.now + 5) ≤ D.reserved disk.old }
     requires fits { gate + 1 + (length body.now + 5) < 2 ^ 64 }
-    ensures done { OnOk result (D.holds disk.new ≡ option_map (λ file. take gate file ++ 1 ∷ (field body.now ++ 0 ∷ [])) (D.holds disk.old)) }
-    ensures durable { OnOk result ((file : List ℕ) → D.holds disk.new ≡ Some file → Only file (D.may_leave disk.new)) }
+    ensures done { OnOk result (D.holds disk.new ≡ option_map
+        (λ file. take gate file ++ 1 ∷ (field body.now ++ 0 ∷ [])) (D.holds disk.old)) }
+    ensures durable { OnOk result (Told D.Disk disk.new (λ file. Only file (D.may_leave disk.new))) }
     ensures told { is_some (D.holds disk.new) ≡ is_some (D.holds disk.old) }
-    ensures left { (file : List ℕ) → D.holds disk.old ≡ Some file → (image : List ℕ) → D.may_leave disk.new image → IsGated gate file (field body.now ++ 0 ∷ []) image }
-    ensures adds { (file : List ℕ) → D.holds disk.old ≡ Some file → Adds D.moment D.left_since disk.old disk.new (IsGated gate file (field body.now ++ 0 ∷ [])) }
+    ensures left { Told D.Disk disk.old (λ file. (image : List ℕ) → D.may_leave disk.new image →
+        IsGated gate file (field body.now ++ 0 ∷ []) image) }
+    ensures adds { Told D.Disk disk.old
+        (λ file. Adds D.Disk disk.old disk.new (IsGated gate file (field body.now ++ 0 ∷ []))) }
     ensures later { D.count disk.old ≤ D.count disk.new }
     ensures cause { OnErr result (Rose (D.count disk.old) (D.count disk.new)) }
 {

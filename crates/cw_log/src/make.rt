@@ -1,6 +1,7 @@
 // How a log is made where there is none.
 ghost use Rattle.std.specs.Prelude.{◌≡◌, ◌≤◌, ◌<◌, ◌+◌, ◌^◌, List, ℕ, Some, [], ◌∷◌, ◌++◌, length, OnOk, OnErr, is_some, option_map};
-ghost use Rattle.cw_disk.specs.Disk.{Only, Adds};
+ghost use Rattle.cw_disk.specs.Told.{Adds, Told};
+ghost use Rattle.cw_disk.specs.Disk.{Only};
 ghost use Rattle.cw_types.specs.Faults.{Rose};
 ghost use Rattle.cw_log.specs.Log.{IsUnmade, StandsFor, header, new_log};
 
@@ -9,15 +10,15 @@ use cw_disk::{Disk, Failed};
 
 // Leaves one byte 0 of an unmade file of this length.
 fn clear<D: Disk>(disk: &mut D, size: u64) -> Result<(), Failed>
-    requires length { (file : List ℕ) → D.holds disk.old ≡ Some file → size ≡ length file }
-    requires unmade { (file : List ℕ) → D.holds disk.old ≡ Some file → IsUnmade file }
-    requires settled { (file : List ℕ) → D.holds disk.old ≡ Some file → Only file (D.may_leave disk.old) }
+    requires length { Told D.Disk disk.old (λ file. size ≡ length file) }
+    requires unmade { Told D.Disk disk.old (λ file. IsUnmade file) }
+    requires settled { Told D.Disk disk.old (λ file. Only file (D.may_leave disk.old)) }
     requires room { 1 ≤ D.reserved disk.old }
     ensures done { OnOk result (D.holds disk.new ≡ option_map (λ file. 0 ∷ []) (D.holds disk.old)) }
-    ensures durable { OnOk result ((file : List ℕ) → D.holds disk.new ≡ Some file → Only file (D.may_leave disk.new)) }
+    ensures durable { OnOk result (Told D.Disk disk.new (λ file. Only file (D.may_leave disk.new))) }
     ensures told { is_some (D.holds disk.new) ≡ is_some (D.holds disk.old) }
-    ensures left { (file : List ℕ) → D.holds disk.old ≡ Some file → (image : List ℕ) → D.may_leave disk.new image → IsUnmade image }
-    ensures adds { (file : List ℕ) → D.holds disk.old ≡ Some file → Adds D.moment D.left_since disk.old disk.new IsUnmade }
+    ensures left { Told D.Disk disk.old (λ file. (image : List ℕ) → D.may_leave disk.new image → IsUnmade image) }
+    ensures adds { Told D.Disk disk.old (λ file. Adds D.Disk disk.old disk.new IsUnmade) }
     ensures room { D.reserved disk.old ≤ D.reserved disk.new }
     ensures later { D.count disk.old ≤ D.count disk.new }
     ensures cause { OnErr result (Rose (D.count disk.old) (D.count disk.new)) }
@@ -38,15 +39,16 @@ fn header_of(kind: u8) -> [u8; 16]
 
 // Makes a log of no body of an unmade file of this length.
 pub(crate) fn make<D: Disk>(disk: &mut D, kind: u8, size: u64) -> Result<(), Failed>
-    requires length { (file : List ℕ) → D.holds disk.old ≡ Some file → size ≡ length file }
-    requires unmade { (file : List ℕ) → D.holds disk.old ≡ Some file → IsUnmade file }
-    requires settled { (file : List ℕ) → D.holds disk.old ≡ Some file → Only file (D.may_leave disk.old) }
+    requires length { Told D.Disk disk.old (λ file. size ≡ length file) }
+    requires unmade { Told D.Disk disk.old (λ file. IsUnmade file) }
+    requires settled { Told D.Disk disk.old (λ file. Only file (D.may_leave disk.old)) }
     requires room { 17 ≤ D.reserved disk.old }
     ensures done { OnOk result (D.holds disk.new ≡ option_map (λ file. new_log kind) (D.holds disk.old)) }
-    ensures durable { OnOk result ((file : List ℕ) → D.holds disk.new ≡ Some file → Only file (D.may_leave disk.new)) }
+    ensures durable { OnOk result (Told D.Disk disk.new (λ file. Only file (D.may_leave disk.new))) }
     ensures told { is_some (D.holds disk.new) ≡ is_some (D.holds disk.old) }
-    ensures left { (file : List ℕ) → D.holds disk.old ≡ Some file → (image : List ℕ) → D.may_leave disk.new image → StandsFor kind [] image }
-    ensures adds { (file : List ℕ) → D.holds disk.old ≡ Some file → Adds D.moment D.left_since disk.old disk.new (StandsFor kind []) }
+    ensures left { Told D.Disk disk.old (λ file. (image : List ℕ) → D.may_leave disk.new image →
+        StandsFor kind [] image) }
+    ensures adds { Told D.Disk disk.old (λ file. Adds D.Disk disk.old disk.new (StandsFor kind [])) }
     ensures room { D.reserved disk.old ≤ D.reserved disk.new }
     ensures later { D.count disk.old ≤ D.count disk.new }
     ensures cause { OnErr result (Rose (D.count disk.old) (D.count disk.new)) }

@@ -1,9 +1,9 @@
 // Opening the file of a log: it is synced, read, and then made or cut behind its closed gate.
 ghost use Rattle.std.specs.Prelude.{◌≡◌, ◌≤◌, ◌<◌, ◌+◌, ◌^◌, List, ℕ, Option, Some, None, [], ◌∷◌, ◌++◌, length, take, drop, IfOk, IfErr, OnOk, OnErr, is_some, option_map, true};
-ghost use Rattle.cw_disk.specs.Disk.{Only, Adds};
+ghost use Rattle.cw_disk.specs.Told.{Adds, Reads, Told};
+ghost use Rattle.cw_disk.specs.Disk.{Only};
 ghost use Rattle.cw_types.specs.Faults.{Rose};
-ghost use Rattle.cw_log.specs.Calls.{Reads};
-ghost use Rattle.cw_log.specs.Log.{IsUnmade, IsDamaged, StandsFor, StandAlike, Begins, IsFrame, OnCause, byte_at, harm_of_head, harm_of_file, bodies_at, places_of};
+ghost use Rattle.cw_log.specs.Log.{IsUnmade, IsDamaged, StandsFor, StandAlike, Begins, IsFrame, OnCause, EndsAtGate, HasHead, OpensAs, byte_at, harm_of_head, harm_of_file, bodies_at, new_log, number_of, places_of};
 ghost use Rattle.cw_log.specs.State.{IsKept, IsRest, OpensTo, HasFront};
 
 use crate::calls::{flush, length_of, prepare, read, shorten};
@@ -16,9 +16,10 @@ use std::alloc::Global;
 
 // The first 16 bytes, as far as there are so many.
 fn head_of<D: Disk>(disk: &mut D) -> Result<[u8; 16], Failed>
-    ensures first { IfOk result (λ head. (file : List ℕ) → D.holds disk.old ≡ Some file → 0 < length file → byte_at head 0 ≡ byte_at file 0) }
-    ensures whole { IfOk result (λ head. (file : List ℕ) → D.holds disk.old ≡ Some file → 16 ≤ length file → head ≡ take 16 file) }
-    ensures reads { Reads D.holds D.may_leave D.moment D.left_since D.count D.reserved disk.old disk.new }
+    ensures first { IfOk result (λ head. Told D.Disk disk.old (λ file. 0 < length file → byte_at head 0 ≡
+        byte_at file 0)) }
+    ensures whole { IfOk result (λ head. Told D.Disk disk.old (λ file. 16 ≤ length file → head ≡ take 16 file)) }
+    ensures reads { Reads D.Disk disk.old disk.new }
     ensures cause { OnErr result (Rose (D.count disk.old) (D.count disk.new)) }
 {
     let mut head = [0; 16];
@@ -48,13 +49,13 @@ fn harm_in(kind: u8, head: &[u8]) -> Option<Harm>
 
 // Cuts off what lies behind the closed gate of a file of this size, if there is anything.
 fn trim<D: Disk>(disk: &mut D, gate: u64, size: u64) -> Result<(), Failed>
-    requires size { (file : List ℕ) → D.holds disk.old ≡ Some file → size ≡ length file }
-    requires settled { (file : List ℕ) → D.holds disk.old ≡ Some file → Only file (D.may_leave disk.old) }
+    requires size { Told D.Disk disk.old (λ file. size ≡ length file) }
+    requires settled { Told D.Disk disk.old (λ file. Only file (D.may_leave disk.old)) }
     requires within { gate < size }
     ensures done { OnOk result (D.holds disk.new ≡ option_map (λ file. take (gate + 1) file) (D.holds disk.old)) }
-    ensures durable { OnOk result ((file : List ℕ) → D.holds disk.new ≡ Some file → Only file (D.may_leave disk.new)) }
+    ensures durable { OnOk result (Told D.Disk disk.new (λ file. Only file (D.may_leave disk.new))) }
     ensures told { is_some (D.holds disk.new) ≡ is_some (D.holds disk.old) }
-    ensures adds { (file : List ℕ) → D.holds disk.old ≡ Some file → Adds D.moment D.left_since disk.old disk.new (HasFront (gate + 1) file) }
+    ensures adds { Told D.Disk disk.old (λ file. Adds D.Disk disk.old disk.new (HasFront (gate + 1) file)) }
     ensures later { D.count disk.old ≤ D.count disk.new }
     ensures cause { OnErr result (Rose (D.count disk.old) (D.count disk.new)) }
 {
@@ -73,22 +74,29 @@ fn open_made<D: Disk, V: BodyVisitor>(
     head: &[u8],
     visitor: &mut V,
 ) -> Result<Frames, OpenCause>
-    requires size { (file : List ℕ) → D.holds disk.old ≡ Some file → size ≡ length file }
-    requires settled { (file : List ℕ) → D.holds disk.old ≡ Some file → Only file (D.may_leave disk.old) }
-    requires made { (file : List ℕ) → D.holds disk.old ≡ Some file → (2 ≤ length file) × (0 < byte_at file 0) }
-    requires head { (file : List ℕ) → D.holds disk.old ≡ Some file → 16 ≤ length file → head.now ≡ take 16 file }
+    requires size { Told D.Disk disk.old (λ file. size ≡ length file) }
+    requires settled { Told D.Disk disk.old (λ file. Only file (D.may_leave disk.old)) }
+    requires made { Told D.Disk disk.old (λ file. (2 ≤ length file) × (0 < byte_at file 0)) }
+    requires head { Told D.Disk disk.old (λ file. 16 ≤ length file → head.now ≡ take 16 file) }
     requires whole { length head.now ≡ 16 }
-    ensures kept { IfOk result (λ found. (file : List ℕ) → D.holds disk.new ≡ Some file → IsKept kind found.gate (places_of found) file × IsRest found.gate (D.may_leave disk.new) file) }
-    ensures list { IfOk result (λ found. (file : List ℕ) → D.holds disk.old ≡ Some file → OpensTo kind (places_of found) (D.holds disk.new) file) }
-    ensures seen { IfOk result (λ found. V.has_seen visitor.old [] → (now : List ℕ) → D.holds disk.new ≡ Some now → V.has_seen visitor.new (bodies_at (places_of found) now)) }
+    ensures kept { IfOk result (λ found. Told D.Disk disk.new (λ file. IsKept kind found.gate (places_of found) file ×
+        IsRest found.gate (D.may_leave disk.new) file)) }
+    ensures list { IfOk result (λ found. Told D.Disk disk.old
+        (λ file. OpensTo kind (places_of found) (D.holds disk.new) file)) }
+    ensures seen { IfOk result (λ found. V.has_seen visitor.old [] → (now : List ℕ) → D.holds disk.new ≡ Some now →
+        V.has_seen visitor.new (bodies_at (places_of found) now)) }
     ensures unknown { IfOk result (λ found. found.known ≡ None) }
     ensures gate { IfOk result (λ found. (16 ≤ found.gate) × (found.gate + 1 < 2 ^ 64)) }
+    ensures bytes { OnOk result (Told D.Disk disk.old (λ file. EndsAtGate file (D.holds disk.new))) }
+    ensures same { OnOk result (Told D.Disk disk.new (λ now. take 16 now ≡ head.now)) }
     ensures told { OnOk result (is_some (D.holds disk.new) ≡ is_some (D.holds disk.old)) }
     ensures cause { IfErr result (OnCause
-        (λ at harm. (D.holds disk.new ≡ D.holds disk.old) × ((file : List ℕ) → D.holds disk.old ≡ Some file → IsDamaged kind file at harm))
+        (λ at harm. (D.holds disk.new ≡ D.holds disk.old) × (Told D.Disk disk.old
+        (λ file. IsDamaged kind file at harm)))
         (Rose (D.count disk.old) (D.count disk.new))
         (D.holds disk.new ≡ D.holds disk.old)) }
-    ensures adds { (file : List ℕ) → D.holds disk.old ≡ Some file → Adds D.moment D.left_since disk.old disk.new (StandAlike kind file) }
+    ensures adds { Told D.Disk disk.old (λ file. Adds D.Disk disk.old disk.new (StandAlike kind file)) }
+    ensures head { Told D.Disk disk.old (λ file. Adds D.Disk disk.old disk.new (HasHead file)) }
     ensures later { D.count disk.old ≤ D.count disk.new }
 {
     if size < 17 {
@@ -107,17 +115,21 @@ fn open_made<D: Disk, V: BodyVisitor>(
 
 // Makes a log of an unmade file of this size.
 fn open_new<D: Disk>(disk: &mut D, kind: u8, size: u64) -> Result<Frames, OpenCause>
-    requires size { (file : List ℕ) → D.holds disk.old ≡ Some file → size ≡ length file }
-    requires settled { (file : List ℕ) → D.holds disk.old ≡ Some file → Only file (D.may_leave disk.old) }
-    requires unmade { (file : List ℕ) → D.holds disk.old ≡ Some file → IsUnmade file }
-    ensures kept { IfOk result (λ found. (file : List ℕ) → D.holds disk.new ≡ Some file → IsKept kind found.gate (places_of found) file × IsRest found.gate (D.may_leave disk.new) file) }
-    ensures list { IfOk result (λ found. (file : List ℕ) → D.holds disk.old ≡ Some file → OpensTo kind (places_of found) (D.holds disk.new) file) }
+    requires size { Told D.Disk disk.old (λ file. size ≡ length file) }
+    requires settled { Told D.Disk disk.old (λ file. Only file (D.may_leave disk.old)) }
+    requires unmade { Told D.Disk disk.old (λ file. IsUnmade file) }
+    ensures kept { IfOk result (λ found. Told D.Disk disk.new (λ file. IsKept kind found.gate (places_of found) file ×
+        IsRest found.gate (D.may_leave disk.new) file)) }
+    ensures list { IfOk result (λ found. Told D.Disk disk.old
+        (λ file. OpensTo kind (places_of found) (D.holds disk.new) file)) }
     ensures none { IfOk result (λ found. places_of found ≡ []) }
     ensures unknown { IfOk result (λ found. found.known ≡ None) }
     ensures gate { IfOk result (λ found. (16 ≤ found.gate) × (found.gate + 1 < 2 ^ 64)) }
+    ensures bytes { OnOk result (D.holds disk.new ≡ option_map (λ file. new_log kind) (D.holds disk.old)) }
     ensures told { OnOk result (is_some (D.holds disk.new) ≡ is_some (D.holds disk.old)) }
-    ensures cause { IfErr result (OnCause (λ at harm. ⊥) (Rose (D.count disk.old) (D.count disk.new)) (D.holds disk.new ≡ D.holds disk.old)) }
-    ensures adds { (file : List ℕ) → D.holds disk.old ≡ Some file → Adds D.moment D.left_since disk.old disk.new (StandAlike kind file) }
+    ensures cause { IfErr result (OnCause
+        (λ at harm. ⊥) (Rose (D.count disk.old) (D.count disk.new)) (D.holds disk.new ≡ D.holds disk.old)) }
+    ensures adds { Told D.Disk disk.old (λ file. Adds D.Disk disk.old disk.new (StandAlike kind file)) }
     ensures later { D.count disk.old ≤ D.count disk.new }
 {
     prepare(disk, 17)?;
@@ -130,40 +142,74 @@ fn open_new<D: Disk>(disk: &mut D, kind: u8, size: u64) -> Result<Frames, OpenCa
     })
 }
 
-// Opens the file: syncs it, reads it, and makes a log of it or cuts it behind its closed gate. The visitor is shown its bodies.
+/// What an opening finds: the frames, and the side number.
+#[derive(Drop)]
+pub(crate) struct Found {
+    pub(crate) frames: Frames,
+    pub(crate) number: u64,
+}
+
+// The side number in a header.
+fn number_in(head: &[u8]) -> u64
+    requires { length head.now ≡ 16 }
+    ensures { result ≡ number_of head.now }
+{
+    u64::from_be_bytes([
+        head[8], head[9], head[10], head[11], head[12], head[13], head[14], head[15],
+    ])
+}
+
+// Opens the file: syncs it, reads it, and makes a log of it or cuts it behind its closed gate. The visitor is
+// shown its bodies.
 pub(crate) fn opened<D: Disk, V: BodyVisitor>(
     alloc: Global,
     disk: &mut D,
     kind: u8,
     visitor: &mut V,
-) -> Result<Frames, OpenCause>
-    ensures kept { IfOk result (λ found. (file : List ℕ) → D.holds disk.new ≡ Some file → IsKept kind found.gate (places_of found) file × IsRest found.gate (D.may_leave disk.new) file) }
-    ensures list { IfOk result (λ found. (file : List ℕ) → D.holds disk.old ≡ Some file → OpensTo kind (places_of found) (D.holds disk.new) file) }
-    ensures seen { IfOk result (λ found. V.has_seen visitor.old [] → (now : List ℕ) → D.holds disk.new ≡ Some now → V.has_seen visitor.new (bodies_at (places_of found) now)) }
-    ensures unknown { IfOk result (λ found. found.known ≡ None) }
-    ensures gate { IfOk result (λ found. (16 ≤ found.gate) × (found.gate + 1 < 2 ^ 64)) }
+) -> Result<Found, OpenCause>
+    ensures kept { IfOk result (λ found. Told D.Disk disk.new
+        (λ file. IsKept kind found.frames.gate (places_of found.frames) file ×
+        IsRest found.frames.gate (D.may_leave disk.new) file)) }
+    ensures list { IfOk result (λ found. Told D.Disk disk.old
+        (λ file. OpensTo kind (places_of found.frames) (D.holds disk.new) file)) }
+    ensures seen { IfOk result (λ found. V.has_seen visitor.old [] → (now : List ℕ) → D.holds disk.new ≡ Some now →
+        V.has_seen visitor.new (bodies_at (places_of found.frames) now)) }
+    ensures unknown { IfOk result (λ found. found.frames.known ≡ None) }
+    ensures gate { IfOk result (λ found. (16 ≤ found.frames.gate) × (found.frames.gate + 1 < 2 ^ 64)) }
+    ensures bytes { IfOk result (λ found. Told D.Disk disk.old
+        (λ file. OpensAs kind found.number file (D.holds disk.new))) }
+    ensures side { IfOk result (λ found. Told D.Disk disk.new (λ now. number_of now ≡ found.number)) }
     ensures told { OnOk result (is_some (D.holds disk.new) ≡ is_some (D.holds disk.old)) }
     ensures cause { IfErr result (OnCause
-        (λ at harm. (D.holds disk.new ≡ D.holds disk.old) × ((file : List ℕ) → D.holds disk.old ≡ Some file → IsDamaged kind file at harm))
+        (λ at harm. (D.holds disk.new ≡ D.holds disk.old) × (Told D.Disk disk.old
+        (λ file. IsDamaged kind file at harm)))
         (Rose (D.count disk.old) (D.count disk.new))
         (D.holds disk.new ≡ D.holds disk.old)) }
-    ensures adds { (file : List ℕ) → D.holds disk.old ≡ Some file → Adds D.moment D.left_since disk.old disk.new (StandAlike kind file) }
+    ensures adds { Told D.Disk disk.old (λ file. Adds D.Disk disk.old disk.new (StandAlike kind file)) }
+    ensures head { Told D.Disk disk.old (λ file. 2 ≤ length file → 0 < byte_at file 0 →
+        Adds D.Disk disk.old disk.new (HasHead file)) }
     ensures later { D.count disk.old ≤ D.count disk.new }
 {
     let (size, head) = first_part(disk)?;
     if size < 2 || head[0] == 0 {
-        return open_new(disk, kind, size);
+        let frames = open_new(disk, kind, size)?;
+        return Ok(Found { frames, number: 1 });
     }
-    open_made(alloc, disk, kind, size, &head, visitor)
+    let frames = open_made(alloc, disk, kind, size, &head, visitor)?;
+    Ok(Found {
+        frames,
+        number: number_in(&head),
+    })
 }
 
 // Syncs the disk, and reads its length and its first 16 bytes.
 fn first_part<D: Disk>(disk: &mut D) -> Result<(u64, [u8; 16]), Failed>
-    ensures size { IfOk result (λ part. (file : List ℕ) → D.holds disk.old ≡ Some file → part.0 ≡ length file) }
-    ensures first { IfOk result (λ part. (file : List ℕ) → D.holds disk.old ≡ Some file → 0 < length file → byte_at part.1 0 ≡ byte_at file 0) }
-    ensures whole { IfOk result (λ part. (file : List ℕ) → D.holds disk.old ≡ Some file → 16 ≤ length file → part.1 ≡ take 16 file) }
-    ensures settled { OnOk result ((file : List ℕ) → D.holds disk.old ≡ Some file → Only file (D.may_leave disk.new)) }
-    ensures reads { Reads D.holds D.may_leave D.moment D.left_since D.count D.reserved disk.old disk.new }
+    ensures size { IfOk result (λ part. Told D.Disk disk.old (λ file. part.0 ≡ length file)) }
+    ensures first { IfOk result (λ part. Told D.Disk disk.old (λ file. 0 < length file → byte_at part.1 0 ≡
+        byte_at file 0)) }
+    ensures whole { IfOk result (λ part. Told D.Disk disk.old (λ file. 16 ≤ length file → part.1 ≡ take 16 file)) }
+    ensures settled { OnOk result (Told D.Disk disk.old (λ file. Only file (D.may_leave disk.new))) }
+    ensures reads { Reads D.Disk disk.old disk.new }
     ensures cause { OnErr result (Rose (D.count disk.old) (D.count disk.new)) }
 {
     flush(disk)?;

@@ -22,8 +22,9 @@ pub enum Frame {
     Open(u64),
 }
 
-/// The frames of a file: how many there are, and the closed gate behind the last one. Where each begins is ghost data until a
-/// body is asked for: then it is looked for, and kept. A frame ends where the next one begins, so this tells how long its body is too.
+/// The frames of a file: how many there are, and the closed gate behind the last one. Where each begins is
+/// ghost data until a body is asked for: then it is looked for, and kept. A frame ends where the next one
+/// begins, so this tells how long its body is too.
 #[derive(Drop)]
 pub struct Frames {
     pub(crate) starts: Past<u64>,
@@ -46,12 +47,13 @@ impl Frames {
         self.count
     }
 
-    /// Where the frame of this number lies, once all were looked for. Those of a file begin more than five bytes apart; where
-    /// two did not, the length would be 0.
+    /// Where the frame of this number lies, once all were looked for. Those of a file begin more than five
+    /// bytes apart; where two did not, the length would be 0.
     #[inline]
     pub(crate) fn get(&self, index: u64) -> Place
         requires { index < length self.now.starts.items }
-        ensures { IsFound self.now.known self.now.starts.items → result ≡ slice_index_or (places_of self.now) index result }
+        ensures { IsFound self.now.known self.now.starts.items → result ≡
+            slice_index_or (places_of self.now) index result }
     {
         let at = self.start(index);
         let end = self.start(index + 1);
@@ -64,7 +66,8 @@ impl Frames {
     // Where the frame of this number begins, or the gate where there is none or it wasn't found.
     #[inline]
     fn start(&self, index: u64) -> u64
-        ensures { IsFound self.now.known self.now.starts.items → result ≡ slice_index_or self.now.starts.items index self.now.gate }
+        ensures { IsFound self.now.known self.now.starts.items → result ≡
+            slice_index_or self.now.starts.items index self.now.gate }
     {
         match &self.known {
             Some(starts) => start_in(starts, index, self.gate),
@@ -89,7 +92,8 @@ impl Frames {
     pub(crate) fn push(&mut self, length: u64)
         requires room { HasPlace self.old.known }
         requires fits { self.old.gate + (length + 5) < 2 ^ 64 }
-        ensures places { places_of self.new ≡ places_of self.old ++ record { at = self.old.gate; length = length } ∷ [] }
+        ensures places { places_of self.new ≡
+            places_of self.old ++ record { at = self.old.gate; length = length } ∷ [] }
         ensures gate { self.new.gate ≡ self.old.gate + (length + 5) }
         ensures count { self.new.count ≡ self.old.count + 1 }
         ensures known { IsKnown self.old.known self.old.starts.items → IsKnown self.new.known self.new.starts.items }

@@ -1,7 +1,8 @@
 // Reading the frames of a made file.
 ghost use Rattle.std.specs.Prelude.{◌≡◌, ◌≤◌, ◌<◌, ◌+◌, ◌-◌, ◌^◌, ◌++◌, ◌∷◌, [], List, ℕ, Some, None, length, take, drop, IfOk, IfErr, OnOk, OnErr};
+ghost use Rattle.cw_disk.specs.Told.{Reads, Told};
 ghost use Rattle.cw_types.specs.Faults.{Rose};
-ghost use Rattle.cw_log.specs.Calls.{Reads, Shows, IsWindow};
+ghost use Rattle.cw_log.specs.Calls.{Shows, IsWindow};
 ghost use Rattle.cw_log.specs.Log.{IsFrame, EndsWithin, Begins, BreaksAt, OnCause, bodies_at, length_of, places_of};
 
 use crate::calls::read_part;
@@ -39,14 +40,14 @@ pub(crate) fn frame_at<D: Disk>(
     at: u64,
     size: u64,
 ) -> Result<Frame, Failed>
-    requires size { (file : List ℕ) → D.holds disk.old ≡ Some file → size ≡ length file }
-    requires window { (file : List ℕ) → D.holds disk.old ≡ Some file → IsWindow file window.old }
+    requires size { Told D.Disk disk.old (λ file. size ≡ length file) }
+    requires window { Told D.Disk disk.old (λ file. IsWindow file window.old) }
     requires within { window.old.filled ≤ length window.old.bytes.items }
-    ensures window { (file : List ℕ) → D.holds disk.old ≡ Some file → IsWindow file window.new }
+    ensures window { Told D.Disk disk.old (λ file. IsWindow file window.new) }
     ensures within { window.new.filled ≤ length window.new.bytes.items }
-    ensures frame { IfOk result (λ frame. (file : List ℕ) → D.holds disk.old ≡ Some file → IsFrame frame (drop at file)) }
+    ensures frame { IfOk result (λ frame. Told D.Disk disk.old (λ file. IsFrame frame (drop at file))) }
     ensures ends { IfOk result (EndsWithin (size - at)) }
-    ensures reads { Reads D.holds D.may_leave D.moment D.left_since D.count D.reserved disk.old disk.new }
+    ensures reads { Reads D.Disk disk.old disk.new }
     ensures cause { OnErr result (Rose (D.count disk.old) (D.count disk.new)) }
 {
     if at >= size {
@@ -56,8 +57,8 @@ pub(crate) fn frame_at<D: Disk>(
     Ok(frame_of(&five, size - at))
 }
 
-// Shows the body of so many bytes that lies in a frame with its gate at this place. One that is longer than the window is read
-// by itself.
+// Shows the body of so many bytes that lies in a frame with its gate at this place. One that is longer than the
+// window is read by itself.
 #[inline]
 fn show<D: Disk, V: BodyVisitor>(
     alloc: Global,
@@ -67,15 +68,15 @@ fn show<D: Disk, V: BodyVisitor>(
     count: u64,
     visitor: &mut V,
 ) -> Result<(), OpenCause>
-    requires window { (file : List ℕ) → D.holds disk.old ≡ Some file → IsWindow file window.old }
+    requires window { Told D.Disk disk.old (λ file. IsWindow file window.old) }
     requires within { window.old.filled ≤ length window.old.bytes.items }
-    requires whole { (file : List ℕ) → D.holds disk.old ≡ Some file → at + (5 + count) ≤ length file }
+    requires whole { Told D.Disk disk.old (λ file. at + (5 + count) ≤ length file) }
     requires fits { at + (5 + count) < 2 ^ 64 }
-    ensures window { (file : List ℕ) → D.holds disk.old ≡ Some file → IsWindow file window.new }
+    ensures window { Told D.Disk disk.old (λ file. IsWindow file window.new) }
     ensures within { window.new.filled ≤ length window.new.bytes.items }
-    ensures seen { OnOk result ((file : List ℕ) → D.holds disk.old ≡ Some file → (bodies : List (List ℕ)) → at + 1 ≡ length_of bodies →
-        V.has_seen visitor.old bodies → V.has_seen visitor.new (bodies ++ take count (drop (at + 5) file) ∷ [])) }
-    ensures reads { Reads D.holds D.may_leave D.moment D.left_since D.count D.reserved disk.old disk.new }
+    ensures seen { OnOk result (Told D.Disk disk.old (λ file. (bodies : List (List ℕ)) → at + 1 ≡ length_of bodies →
+        V.has_seen visitor.old bodies → V.has_seen visitor.new (bodies ++ take count (drop (at + 5) file) ∷ []))) }
+    ensures reads { Reads D.Disk disk.old disk.new }
     ensures cause { IfErr result (OnCause (λ at harm. ⊥) (Rose (D.count disk.old) (D.count disk.new)) (Unit {0})) }
 {
     let size = count as usize;
@@ -97,14 +98,17 @@ pub(crate) fn scan<D: Disk, V: BodyVisitor>(
     size: u64,
     visitor: &mut V,
 ) -> Result<Frames, OpenCause>
-    requires size { (file : List ℕ) → D.holds disk.old ≡ Some file → size ≡ length file }
+    requires size { Told D.Disk disk.old (λ file. size ≡ length file) }
     requires long { 16 ≤ size }
-    ensures found { IfOk result (λ found. (file : List ℕ) → D.holds disk.old ≡ Some file → Begins found.gate (places_of found) file × IsFrame Frame.Closed (drop found.gate file)) }
-    ensures seen { IfOk result (λ found. (file : List ℕ) → D.holds disk.old ≡ Some file → V.has_seen visitor.old [] → V.has_seen visitor.new (bodies_at (places_of found) file)) }
+    ensures found { IfOk result (λ found. Told D.Disk disk.old (λ file. Begins found.gate (places_of found) file ×
+        IsFrame Frame.Closed (drop found.gate file))) }
+    ensures seen { IfOk result (λ found. Told D.Disk disk.old (λ file. V.has_seen visitor.old [] →
+        V.has_seen visitor.new (bodies_at (places_of found) file))) }
     ensures unknown { IfOk result (λ found. found.known ≡ None) }
     ensures gate { IfOk result (λ found. (16 ≤ found.gate) × (found.gate < size)) }
-    ensures cause { IfErr result (OnCause (λ at harm. (harm ≡ Harm.Length) × ((file : List ℕ) → D.holds disk.old ≡ Some file → BreaksAt at file)) (Rose (D.count disk.old) (D.count disk.new)) (Unit {0})) }
-    ensures reads { Reads D.holds D.may_leave D.moment D.left_since D.count D.reserved disk.old disk.new }
+    ensures cause { IfErr result (OnCause (λ at harm. (harm ≡ Harm.Length) × (Told D.Disk disk.old
+        (λ file. BreaksAt at file))) (Rose (D.count disk.old) (D.count disk.new)) (Unit {0})) }
+    ensures reads { Reads D.Disk disk.old disk.new }
 {
     let mut starts = Past::new();
     let mut count = 0;

@@ -1,9 +1,9 @@
 // One log on one disk.
 ghost use Rattle.std.specs.Prelude.{◌≡◌, ◌⊎◌, ◌≤◌, ◌<◌, ◌+◌, ◌^◌, ◌++◌, ◌∷◌, [], List, ℕ, Option, Some, None, Bool, true, false, length, OnOk, OnErr, IfOk, IfErr, MatchResult, option_map, is_some, is_ok, is_err, if◌then◌else◌, slice_index_or};
-ghost use Rattle.cw_disk.specs.Disk.{Only, Adds};
+ghost use Rattle.cw_disk.specs.Told.{Adds, Reads, Told};
+ghost use Rattle.cw_disk.specs.Disk.{Only};
 ghost use Rattle.cw_types.specs.Faults.{Rose};
-ghost use Rattle.cw_log.specs.Calls.{Reads};
-ghost use Rattle.cw_log.specs.Log.{StandsFor, StandAlike, BeforeOrAfter, IsDamaged, OnCause, kind_of, length_of};
+ghost use Rattle.cw_log.specs.Log.{StandsFor, StandAlike, BeforeOrAfter, HasHead, IsDamaged, IsSide, OnCause, OpensAs, byte_at, kind_of, length_of};
 ghost use Rattle.cw_log.specs.State.{LogState, OnAppendFault, OnReadFault, OpensTo, IsSameLog, HasSameList, IsAppendable};
 
 use crate::calls::prepare;
@@ -23,6 +23,7 @@ pub struct TopicLog<D: Disk> {
     alloc: Global,
     disk: D,
     kind: u8,
+    number: u64,
     limit: u64,
     frames: Frames,
     tail: Vec<u8>,
@@ -40,9 +41,21 @@ impl<D: Disk> Model for TopicLog<D> {
 
     ghost Value = { LogState D };
 
-    ghost view = { λ l. record { disk = l.disk; kind = l.kind; bodies = option_map (bodies_at (places_of l.frames)) (D.holds l.disk); count = l.frames.count; length = l.frames.gate + 1; limit = l.limit; ready = l.ready; shut = l.shut; failed = option_map (λ n. (0, n)) l.failed } };
+    ghost view = { λ l. record {
+      disk = l.disk;
+      kind = l.kind;
+      number = l.number;
+      bodies = option_map (bodies_at (places_of l.frames)) (D.holds l.disk);
+      count = l.frames.count;
+      length = l.frames.gate + 1;
+      limit = l.limit;
+      ready = l.ready;
+      shut = l.shut;
+      failed = option_map (λ n. (0, n)) l.failed;
+    } };
 
-    ghost invariant = { λ l. IsLog D.holds D.may_leave D.reserved l.disk l.kind l.ready l.frames l.tail l.ahead l.shut };
+    ghost invariant = { λ l. IsLog D.holds D.may_leave D.reserved
+        l.disk l.kind l.number l.ready l.frames l.tail l.ahead l.shut };
 }
 
 impl<D: Disk> TopicLog<D> {
@@ -57,32 +70,46 @@ impl<D: Disk> TopicLog<D> {
         limit: u64,
     ) -> Result<TopicLog<D>, OpenFault<D>>
         // The list is the one that the file stands for.
-        ensures list { IfOk result (λ log. (file : List ℕ) → D.holds disk ≡ Some file →
-            (bodies : List (List ℕ)) × (log.bodies ≡ Some bodies) × StandsFor (kind_of name) bodies file) }
+        ensures list { IfOk result (λ log. Told D.Disk disk (λ file. (bodies : List (List ℕ)) ×
+            (log.bodies ≡ Some bodies) × StandsFor (kind_of name) bodies file)) }
         ensures told { IfOk result (λ log. is_some log.bodies ≡ is_some (D.holds disk)) }
-        ensures new { IfOk result (λ log. (log.kind ≡ kind_of name) × (log.limit ≡ limit) × (log.shut ≡ false) × (log.failed ≡ None)) }
+
+        // A new log where the file was unmade, else the file up to its first closed gate.
+        ensures bytes { IfOk result (λ log. Told D.Disk disk
+            (λ file. OpensAs (kind_of name) log.number file (D.holds log.disk))) }
+        ensures new { IfOk result (λ log. (log.kind ≡ kind_of name) × (log.limit ≡ limit) × (log.shut ≡ false) ×
+            (log.failed ≡ None)) }
 
         ensures cause { IfErr result (λ fault. OnCause
-            (λ at harm. (D.holds fault.disk ≡ D.holds disk) × ((file : List ℕ) → D.holds disk ≡ Some file → IsDamaged (kind_of name) file at harm))
+            (λ at harm. (D.holds fault.disk ≡ D.holds disk) × (Told D.Disk disk
+            (λ file. IsDamaged (kind_of name) file at harm)))
             (Rose (D.count disk) (D.count fault.disk))
             (D.holds fault.disk ≡ D.holds disk) fault.cause) }
 
         // What a stop may leave now it might have left before, or it stands for the same list.
-        ensures left { (file : List ℕ) → D.holds disk ≡ Some file → MatchResult result
-            (λ log. (image : List ℕ) → D.may_leave log.disk image → D.may_leave disk image ⊎ StandAlike (kind_of name) file image)
-            (λ fault. (image : List ℕ) → D.may_leave fault.disk image → D.may_leave disk image ⊎ StandAlike (kind_of name) file image) }
+        ensures left { Told D.Disk disk (λ file. MatchResult result
+            (λ log. (image : List ℕ) → D.may_leave log.disk image →
+            D.may_leave disk image ⊎ StandAlike (kind_of name) file image)
+            (λ fault. (image : List ℕ) → D.may_leave fault.disk image →
+            D.may_leave disk image ⊎ StandAlike (kind_of name) file image)) }
 
         // A stop at any moment of the call leaves a file that stands for the same list.
-        ensures any_moment { (file : List ℕ) → D.holds disk ≡ Some file → MatchResult result
-            (λ log. Adds D.moment D.left_since disk log.disk (StandAlike (kind_of name) file))
-            (λ fault. Adds D.moment D.left_since disk fault.disk (StandAlike (kind_of name) file)) }
-        ensures later { MatchResult result (λ log. D.count disk ≤ D.count log.disk) (λ fault. D.count disk ≤ D.count fault.disk) }
+        ensures any_moment { Told D.Disk disk (λ file. MatchResult result
+            (λ log. Adds D.Disk disk log.disk (StandAlike (kind_of name) file))
+            (λ fault. Adds D.Disk disk fault.disk (StandAlike (kind_of name) file))) }
+
+        // A made file keeps its header, whatever moment a stop comes at.
+        ensures head { Told D.Disk disk (λ file. 2 ≤ length file → 0 < byte_at file 0 → MatchResult result
+            (λ log. Adds D.Disk disk log.disk (HasHead file))
+            (λ fault. Adds D.Disk disk fault.disk (HasHead file))) }
+        ensures later { MatchResult result (λ log. D.count disk ≤ D.count log.disk)
+            (λ fault. D.count disk ≤ D.count fault.disk) }
     {
         TopicLog::open_with(alloc, disk, name, limit, &mut Nobody)
     }
 
-    /// The same, where a visitor is shown the bodies in the one pass over the file. Behind an `Err` the visitor may have
-    /// been shown some of them.
+    /// The same, where a visitor is shown the bodies in the one pass over the file. Behind an `Err` the visitor
+    /// may have been shown some of them.
     pub fn open_with<V: BodyVisitor>(
         alloc: Global,
         disk: D,
@@ -91,39 +118,55 @@ impl<D: Disk> TopicLog<D> {
         visitor: &mut V,
     ) -> Result<TopicLog<D>, OpenFault<D>>
         // The list is the one that the file stands for.
-        ensures list { IfOk result (λ log. (file : List ℕ) → D.holds disk ≡ Some file →
-            (bodies : List (List ℕ)) × (log.bodies ≡ Some bodies) × StandsFor (kind_of name) bodies file) }
+        ensures list { IfOk result (λ log. Told D.Disk disk (λ file. (bodies : List (List ℕ)) ×
+            (log.bodies ≡ Some bodies) × StandsFor (kind_of name) bodies file)) }
         ensures told { IfOk result (λ log. is_some log.bodies ≡ is_some (D.holds disk)) }
-        ensures new { IfOk result (λ log. (log.kind ≡ kind_of name) × (log.limit ≡ limit) × (log.shut ≡ false) × (log.failed ≡ None)) }
+
+        // A new log where the file was unmade, else the file up to its first closed gate.
+        ensures bytes { IfOk result (λ log. Told D.Disk disk
+            (λ file. OpensAs (kind_of name) log.number file (D.holds log.disk))) }
+        ensures new { IfOk result (λ log. (log.kind ≡ kind_of name) × (log.limit ≡ limit) × (log.shut ≡ false) ×
+            (log.failed ≡ None)) }
 
         ensures cause { IfErr result (λ fault. OnCause
-            (λ at harm. (D.holds fault.disk ≡ D.holds disk) × ((file : List ℕ) → D.holds disk ≡ Some file → IsDamaged (kind_of name) file at harm))
+            (λ at harm. (D.holds fault.disk ≡ D.holds disk) × (Told D.Disk disk
+            (λ file. IsDamaged (kind_of name) file at harm)))
             (Rose (D.count disk) (D.count fault.disk))
             (D.holds fault.disk ≡ D.holds disk) fault.cause) }
 
         // The visitor was shown its bodies.
-        ensures seen { IfOk result (λ log. V.has_seen visitor.old [] → (bodies : List (List ℕ)) → log.bodies ≡ Some bodies → V.has_seen visitor.new bodies) }
+        ensures seen { IfOk result (λ log. V.has_seen visitor.old [] → (bodies : List (List ℕ)) → log.bodies ≡
+            Some bodies → V.has_seen visitor.new bodies) }
 
         // What a stop may leave now it might have left before, or it stands for the same list.
-        ensures left { (file : List ℕ) → D.holds disk ≡ Some file → MatchResult result
-            (λ log. (image : List ℕ) → D.may_leave log.disk image → D.may_leave disk image ⊎ StandAlike (kind_of name) file image)
-            (λ fault. (image : List ℕ) → D.may_leave fault.disk image → D.may_leave disk image ⊎ StandAlike (kind_of name) file image) }
+        ensures left { Told D.Disk disk (λ file. MatchResult result
+            (λ log. (image : List ℕ) → D.may_leave log.disk image →
+            D.may_leave disk image ⊎ StandAlike (kind_of name) file image)
+            (λ fault. (image : List ℕ) → D.may_leave fault.disk image →
+            D.may_leave disk image ⊎ StandAlike (kind_of name) file image)) }
 
         // A stop at any moment of the call leaves a file that stands for the same list.
-        ensures any_moment { (file : List ℕ) → D.holds disk ≡ Some file → MatchResult result
-            (λ log. Adds D.moment D.left_since disk log.disk (StandAlike (kind_of name) file))
-            (λ fault. Adds D.moment D.left_since disk fault.disk (StandAlike (kind_of name) file)) }
-        ensures later { MatchResult result (λ log. D.count disk ≤ D.count log.disk) (λ fault. D.count disk ≤ D.count fault.disk) }
+        ensures any_moment { Told D.Disk disk (λ file. MatchResult result
+            (λ log. Adds D.Disk disk log.disk (StandAlike (kind_of name) file))
+            (λ fault. Adds D.Disk disk fault.disk (StandAlike (kind_of name) file))) }
+
+        // A made file keeps its header, whatever moment a stop comes at.
+        ensures head { Told D.Disk disk (λ file. 2 ≤ length file → 0 < byte_at file 0 → MatchResult result
+            (λ log. Adds D.Disk disk log.disk (HasHead file))
+            (λ fault. Adds D.Disk disk fault.disk (HasHead file))) }
+        ensures later { MatchResult result (λ log. D.count disk ≤ D.count log.disk)
+            (λ fault. D.count disk ≤ D.count fault.disk) }
     {
         let mut disk = disk;
         let kind = kind_number(name);
         match opened(alloc, &mut disk, kind, visitor) {
-            Ok(frames) => Ok(TopicLog {
+            Ok(found) => Ok(TopicLog {
                 alloc,
                 disk,
                 kind,
+                number: found.number,
                 limit,
-                frames,
+                frames: found.frames,
                 tail: Vec::new(alloc),
                 ahead: None,
                 ready: 0,
@@ -140,7 +183,7 @@ impl<D: Disk> TopicLog<D> {
         ensures memory { OnErr result (self.old.ready < body) }
         ensures same { IsSameLog self.old self.new }
         ensures less { self.old.ready ≤ self.new.ready }
-        ensures reads { Reads D.holds D.may_leave D.moment D.left_since D.count D.reserved self.old.disk self.new.disk }
+        ensures reads { Reads D.Disk self.old.disk self.new.disk }
         ensures count { D.count self.new.disk ≡ D.count self.old.disk }
     {
         if body as u64 <= self.ready {
@@ -163,21 +206,28 @@ impl<D: Disk> TopicLog<D> {
         requires some { 1 ≤ length body.now }
         requires few { length body.now ≤ 2 ^ 28 }
 
-        ensures bodies { OnOk result (self.new.bodies ≡ option_map (λ bodies. bodies ++ body.now ∷ []) self.old.bodies) }
+        ensures bodies { OnOk result (self.new.bodies ≡ option_map
+            (λ bodies. bodies ++ body.now ∷ []) self.old.bodies) }
         ensures number { IfOk result (λ number. number ≡ self.old.count) }
         ensures count { OnOk result (self.new.count ≡ self.old.count + 1) }
         ensures length { OnOk result (self.new.length ≡ self.old.length + (length body.now + 5)) }
-        ensures alive { OnOk result ((self.old.shut ≡ false) × (self.new.shut ≡ false) × (self.new.failed ≡ self.old.failed)) }
+        ensures alive { OnOk result ((self.old.shut ≡ false) × (self.new.shut ≡ false) × (self.new.failed ≡
+            self.old.failed)) }
         ensures fits { OnOk result (self.old.length + (length body.now + 5) ≤ self.old.limit) }
 
         // Shut exactly where it is due, else Full exactly where it is due; Failed only where the disk's count rose.
         ensures fault { IfErr result (OnAppendFault
-            (IsAppendable (length body.now) self.old × (self.new.shut ≡ true) × (self.new.failed ≡ Some (0, D.count self.new.disk)) × Rose (D.count self.old.disk) (D.count self.new.disk))
-            (λ long frame. (self.old.shut ≡ false) × (long ≡ self.old.length) × (frame ≡ length body.now + 5) × (self.old.limit < long + frame) × (self.new ≡ self.old))
+            (IsAppendable (length body.now) self.old × (self.new.shut ≡ true) × (self.new.failed ≡
+            Some (0, D.count self.new.disk)) × Rose (D.count self.old.disk) (D.count self.new.disk))
+            (λ long frame. (self.old.shut ≡ false) × (long ≡ self.old.length) × (frame ≡ length body.now + 5) ×
+            (self.old.limit < long + frame) × (self.new ≡ self.old))
             ((self.old.shut ≡ true) × (self.new ≡ self.old))
-            (IsAppendable (length body.now) self.old × (self.old.ready < length body.now) × IsSameLog self.old self.new)) }
-        ensures same { OnErr result ((self.new.bodies ≡ self.old.bodies) × (self.new.count ≡ self.old.count) × (self.new.length ≡ self.old.length)) }
+            (IsAppendable (length body.now) self.old × (self.old.ready < length body.now) ×
+            IsSameLog self.old self.new)) }
+        ensures same { OnErr result ((self.new.bodies ≡ self.old.bodies) × (self.new.count ≡ self.old.count) ×
+            (self.new.length ≡ self.old.length)) }
         ensures kind { self.new.kind ≡ self.old.kind }
+        ensures side_number { self.new.number ≡ self.old.number }
         ensures limit { self.new.limit ≡ self.old.limit }
         ensures told { is_some self.new.bodies ≡ is_some self.old.bodies }
         ensures later { D.count self.old.disk ≤ D.count self.new.disk }
@@ -188,7 +238,11 @@ impl<D: Disk> TopicLog<D> {
 
         // So is what a stop at any moment of the call leaves.
         ensures any_moment { self.old.shut ≡ false → (bodies : List (List ℕ)) → self.old.bodies ≡ Some bodies →
-            Adds D.moment D.left_since self.old.disk self.new.disk (BeforeOrAfter self.old.kind bodies body.now) }
+            Adds D.Disk self.old.disk self.new.disk (BeforeOrAfter self.old.kind bodies body.now) }
+
+        // And it has the same header.
+        ensures side { (bodies : List (List ℕ)) → self.old.bodies ≡ Some bodies →
+            Adds D.Disk self.old.disk self.new.disk (IsSide self.old.number) }
     {
         if self.shut {
             return Err(AppendFault::Shut);
@@ -201,6 +255,14 @@ impl<D: Disk> TopicLog<D> {
         self.reserve(body.len())?;
         self.add(body)?;
         Ok(self.frames.count() - 1)
+    }
+
+    /// The side number in its header, which is 1 in a log that was made by an opening.
+    #[inline]
+    pub fn number(&self) -> u64
+        ensures { result ≡ self.now.number }
+    {
+        self.number
     }
 
     /// How many bodies there are.
@@ -221,16 +283,18 @@ impl<D: Disk> TopicLog<D> {
         self.frames.gate + 1
     }
 
-    /// The body of this number, which is below the count. The first such call looks for all frames, and keeps where each begins.
+    /// The body of this number, which is below the count. The first such call looks for all frames, and keeps
+    /// where each begins.
     pub fn read_body(&mut self, index: u64) -> Result<Vec<u8>, ReadFault>
         requires { index < self.old.count }
-        ensures body { IfOk result (λ body. (bodies : List (List ℕ)) → self.old.bodies ≡ Some bodies → body.items ≡ slice_index_or bodies index []) }
+        ensures body { IfOk result (λ body. (bodies : List (List ℕ)) → self.old.bodies ≡ Some bodies → body.items ≡
+            slice_index_or bodies index []) }
         ensures fault { IfErr result (OnReadFault
             (Rose (D.count self.old.disk) (D.count self.new.disk) × (self.new.failed ≡ Some (0, D.count self.new.disk)))
             (self.new.failed ≡ self.old.failed)) }
         ensures ok { OnOk result (self.new.failed ≡ self.old.failed) }
         ensures same { HasSameList self.old self.new }
-        ensures reads { Reads D.holds D.may_leave D.moment D.left_since D.count D.reserved self.old.disk self.new.disk }
+        ensures reads { Reads D.Disk self.old.disk self.new.disk }
     {
         match read_one(
             self.alloc,
@@ -258,10 +322,21 @@ impl<D: Disk> TopicLog<D> {
         }
     }
 
+    /// The disk, to look at.
+    #[inline]
+    pub fn disk(&self) -> &D
+        ensures { result.now ≡ self.now.disk }
+    {
+        &self.disk
+    }
+
     /// What a stop leaves of a log in which no append has failed, and how long it is. It does nothing.
     pub fn rest(&self)
         ensures left { self.now.shut ≡ false → (bodies : List (List ℕ)) → self.now.bodies ≡ Some bodies →
             (image : List ℕ) → D.may_leave self.now.disk image → StandsFor self.now.kind bodies image }
+        ensures side { self.now.shut ≡ false → (bodies : List (List ℕ)) → self.now.bodies ≡ Some bodies →
+            (image : List ℕ) → D.may_leave self.now.disk image → IsSide self.now.number image }
+        ensures count { (bodies : List (List ℕ)) → self.now.bodies ≡ Some bodies → self.now.count ≡ length bodies }
         ensures size { (bodies : List (List ℕ)) → self.now.bodies ≡ Some bodies → self.now.length ≡ length_of bodies }
     {
         let _ = &self.disk;
@@ -283,18 +358,24 @@ impl<D: Disk> TopicLog<D> {
         requires few { length body.now ≤ 2 ^ 28 }
         requires room { length body.now ≤ self.old.ready }
         requires fits { self.old.length + (length body.now + 5) < 2 ^ 64 }
-        ensures bodies { OnOk result (self.new.bodies ≡ option_map (λ bodies. bodies ++ body.now ∷ []) self.old.bodies) }
+        ensures bodies { OnOk result (self.new.bodies ≡ option_map
+            (λ bodies. bodies ++ body.now ∷ []) self.old.bodies) }
         ensures kept { OnErr result (self.new.bodies ≡ self.old.bodies) }
         ensures count { self.new.count ≡ (if is_ok result then self.old.count + 1 else self.old.count) }
-        ensures length { self.new.length ≡ (if is_ok result then self.old.length + (length body.now + 5) else self.old.length) }
+        ensures length { self.new.length ≡
+            (if is_ok result then self.old.length + (length body.now + 5) else self.old.length) }
         ensures shut { self.new.shut ≡ is_err result }
         ensures failed { self.new.failed ≡ (if is_ok result then self.old.failed else Some (0, D.count self.new.disk)) }
         ensures kind { self.new.kind ≡ self.old.kind }
+        ensures side_number { self.new.number ≡ self.old.number }
         ensures limit { self.new.limit ≡ self.old.limit }
         ensures told { is_some self.new.bodies ≡ is_some self.old.bodies }
-        ensures left { (bodies : List (List ℕ)) → self.old.bodies ≡ Some bodies → (image : List ℕ) → D.may_leave self.new.disk image → BeforeOrAfter self.old.kind bodies body.now image }
+        ensures left { (bodies : List (List ℕ)) → self.old.bodies ≡ Some bodies → (image : List ℕ) →
+            D.may_leave self.new.disk image → BeforeOrAfter self.old.kind bodies body.now image }
         ensures any_moment { (bodies : List (List ℕ)) → self.old.bodies ≡ Some bodies →
-            Adds D.moment D.left_since self.old.disk self.new.disk (BeforeOrAfter self.old.kind bodies body.now) }
+            Adds D.Disk self.old.disk self.new.disk (BeforeOrAfter self.old.kind bodies body.now) }
+        ensures side { (bodies : List (List ℕ)) → self.old.bodies ≡ Some bodies →
+            Adds D.Disk self.old.disk self.new.disk (IsSide self.old.number) }
         ensures later { D.count self.old.disk ≤ D.count self.new.disk }
         ensures cause { OnErr result (Rose (D.count self.old.disk) (D.count self.new.disk)) }
     {

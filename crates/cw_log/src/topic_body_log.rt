@@ -3,7 +3,6 @@ use crate::{AppendFault, BodyLog, ReadFault, TopicLog};
 use cw_disk::{Disk, Memory};
 
 impl<D: Disk> BodyLog for TopicLog<D> {
-    ghost use Rattle.cw_types.specs.Faults.{Rose};
     ghost use Rattle.cw_log.specs.State.{StandsSince};
 
     ghost bodies = { λ l. l.bodies };
@@ -20,7 +19,7 @@ impl<D: Disk> BodyLog for TopicLog<D> {
 
     ghost last_failed = { λ l. l.failed };
 
-    ghost rose = { λ old new. Rose (D.count old.disk) (D.count new.disk) };
+    ghost faults = { λ l _. D.count l.disk };
 
     ghost moment = { λ l. D.moment l.disk };
 
@@ -44,6 +43,10 @@ impl<D: Disk> BodyLog for TopicLog<D> {
 
     fn read_body(&mut self, index: u64) -> Result<Vec<u8>, ReadFault> {
         TopicLog::read_body(self, index)
+    }
+
+    fn rest(&self) {
+        TopicLog::rest(self)
     }
 
     fn failed(&self) -> Option<(u8, u64)> {

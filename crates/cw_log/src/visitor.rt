@@ -4,7 +4,8 @@ ghost use Rattle.cw_log.specs.Log.{length_of};
 
 use std::alloc::AllocError;
 
-/// Who is shown each body of a log while the log is opened, in their order and without a copy, so that a file is read once.
+/// Who is shown each body of a log while the log is opened, in their order and without a copy, so that a file
+/// is read once.
 pub trait BodyVisitor {
     /// It was shown just these bodies.
     ghost has_seen: { Self → List (List ℕ) → Type 0 };

@@ -1,7 +1,8 @@
 // A part of a file in memory, so that small frames are not read one by one.
 ghost use Rattle.std.specs.Prelude.{◌≡◌, ◌≤◌, ◌<◌, ◌+◌, ◌-◌, List, ℕ, Option, Some, length, take, drop, IfOk, IfErr, OnOk, OnErr, min, true};
+ghost use Rattle.cw_disk.specs.Told.{Reads, Told};
 ghost use Rattle.cw_types.specs.Faults.{Rose};
-ghost use Rattle.cw_log.specs.Calls.{Reads, Shows, IsAhead};
+ghost use Rattle.cw_log.specs.Calls.{Shows, IsAhead};
 ghost use Rattle.cw_log.specs.State.{OnReadFault};
 
 use crate::ReadFault;
@@ -46,13 +47,14 @@ impl Window {
 
     // Reads the part from `at` on.
     fn fill<D: Disk>(&mut self, disk: &mut D, at: u64) -> Result<(), Failed>
-        requires { (file : List ℕ) → D.holds disk.old ≡ Some file → IsWindow file self.old }
-        ensures window { (file : List ℕ) → D.holds disk.old ≡ Some file → IsWindow file self.new }
+        requires { Told D.Disk disk.old (λ file. IsWindow file self.old) }
+        ensures window { Told D.Disk disk.old (λ file. IsWindow file self.new) }
         ensures size { length self.new.bytes.items ≡ length self.old.bytes.items }
         ensures start { OnOk result (self.new.start ≡ at) }
-        ensures filled { OnOk result ((file : List ℕ) → D.holds disk.old ≡ Some file → self.new.filled ≡ min (length self.new.bytes.items) (length file - at)) }
+        ensures filled { OnOk result (Told D.Disk disk.old (λ file. self.new.filled ≡
+            min (length self.new.bytes.items) (length file - at))) }
         ensures within { self.new.filled ≤ length self.new.bytes.items }
-        ensures reads { Reads D.holds D.may_leave D.moment D.left_since D.count D.reserved disk.old disk.new }
+        ensures reads { Reads D.Disk disk.old disk.new }
         ensures cause { OnErr result (Rose (D.count disk.old) (D.count disk.new)) }
     {
         self.filled = 0;
@@ -65,12 +67,12 @@ impl Window {
     // The five bytes from `at` on, as far as there are so many.
     #[inline]
     pub(crate) fn peek<D: Disk>(&mut self, disk: &mut D, at: u64) -> Result<[u8; 5], Failed>
-        requires window { (file : List ℕ) → D.holds disk.old ≡ Some file → IsWindow file self.old }
+        requires window { Told D.Disk disk.old (λ file. IsWindow file self.old) }
         requires within { self.old.filled ≤ length self.old.bytes.items }
-        ensures window { (file : List ℕ) → D.holds disk.old ≡ Some file → IsWindow file self.new }
+        ensures window { Told D.Disk disk.old (λ file. IsWindow file self.new) }
         ensures within { self.new.filled ≤ length self.new.bytes.items }
-        ensures five { IfOk result (λ five. (file : List ℕ) → D.holds disk.old ≡ Some file → Shows five (drop at file)) }
-        ensures reads { Reads D.holds D.may_leave D.moment D.left_since D.count D.reserved disk.old disk.new }
+        ensures five { IfOk result (λ five. Told D.Disk disk.old (λ file. Shows five (drop at file))) }
+        ensures reads { Reads D.Disk disk.old disk.new }
         ensures cause { OnErr result (Rose (D.count disk.old) (D.count disk.new)) }
     {
         if self.has(at, 5) {
@@ -107,12 +109,13 @@ impl Window {
         size: usize,
         into: &mut Vec<u8>,
     ) -> Result<(), ReadFault>
-        requires window { (file : List ℕ) → D.holds disk.old ≡ Some file → IsWindow file self.old }
+        requires window { Told D.Disk disk.old (λ file. IsWindow file self.old) }
         requires within { self.old.filled ≤ length self.old.bytes.items }
-        ensures window { (file : List ℕ) → D.holds disk.old ≡ Some file → IsWindow file self.new }
+        ensures window { Told D.Disk disk.old (λ file. IsWindow file self.new) }
         ensures within { self.new.filled ≤ length self.new.bytes.items }
-        ensures bytes { OnOk result ((file : List ℕ) → D.holds disk.old ≡ Some file → at + size ≤ length file → into.new.items ≡ take size (drop at file)) }
-        ensures reads { Reads D.holds D.may_leave D.moment D.left_since D.count D.reserved disk.old disk.new }
+        ensures bytes { OnOk result (Told D.Disk disk.old (λ file. at + size ≤ length file → into.new.items ≡
+            take size (drop at file))) }
+        ensures reads { Reads D.Disk disk.old disk.new }
         ensures cause { IfErr result (OnReadFault (Rose (D.count disk.old) (D.count disk.new)) (Unit {0})) }
     {
         if size > self.bytes.len() {
@@ -131,14 +134,15 @@ impl Window {
         at: u64,
         count: usize,
     ) -> Result<usize, Failed>
-        requires window { (file : List ℕ) → D.holds disk.old ≡ Some file → IsWindow file self.old }
+        requires window { Told D.Disk disk.old (λ file. IsWindow file self.old) }
         requires within { self.old.filled ≤ length self.old.bytes.items }
         requires wide { count ≤ length self.old.bytes.items }
-        ensures window { (file : List ℕ) → D.holds disk.old ≡ Some file → IsWindow file self.new }
+        ensures window { Told D.Disk disk.old (λ file. IsWindow file self.new) }
         ensures within { self.new.filled ≤ length self.new.bytes.items }
         ensures place { IfOk result (λ from. (self.new.start + from ≡ at) × (from ≤ self.new.filled)) }
-        ensures all { IfOk result (λ from. (file : List ℕ) → D.holds disk.old ≡ Some file → at + count ≤ length file → from + count ≤ self.new.filled) }
-        ensures reads { Reads D.holds D.may_leave D.moment D.left_since D.count D.reserved disk.old disk.new }
+        ensures all { IfOk result (λ from. Told D.Disk disk.old (λ file. at + count ≤ length file →
+            from + count ≤ self.new.filled)) }
+        ensures reads { Reads D.Disk disk.old disk.new }
         ensures cause { OnErr result (Rose (D.count disk.old) (D.count disk.new)) }
     {
         if self.has(at, count) {
@@ -162,8 +166,9 @@ pub(crate) fn read_ahead<D: Disk>(
 ) -> Result<(), ReadFault>
     requires { IsAhead (D.holds disk.old) ahead.old }
     ensures ahead { IsAhead (D.holds disk.old) ahead.new }
-    ensures bytes { OnOk result ((file : List ℕ) → D.holds disk.old ≡ Some file → at + size ≤ length file → into.new.items ≡ take size (drop at file)) }
-    ensures reads { Reads D.holds D.may_leave D.moment D.left_since D.count D.reserved disk.old disk.new }
+    ensures bytes { OnOk result (Told D.Disk disk.old (λ file. at + size ≤ length file → into.new.items ≡
+        take size (drop at file))) }
+    ensures reads { Reads D.Disk disk.old disk.new }
     ensures cause { IfErr result (OnReadFault (Rose (D.count disk.old) (D.count disk.new)) (Unit {0})) }
 {
     match ahead {

@@ -1,7 +1,7 @@
 use Rattle.std.proofs.Common.{◌∙◌, inl, ℕ, sym, ap, subst}
-use Rattle.cw_disk.specs.Disk.{Adds}
+use Rattle.cw_disk.specs.Disk.{AddsOf}
 use Rattle.cw_disk.proofs.Moments.{adds_then}
-use Rattle.cw_log.specs.Log.{StandsFor, BeforeOrAfter, bodies_at, places_of}
+use Rattle.cw_log.specs.Log.{IsSide, StandsFor, BeforeOrAfter, bodies_at, places_of}
 use Rattle.cw_log.proofs.Gates.{told_before, reads_adds}
 use Rattle.cw_log.proofs.Appended.{rest_stands}
 use Rattle.cw_log.proofs.topic.TopicLog.append.Goals as goal
@@ -23,10 +23,22 @@ pub returns-in_err-add-clause-any_moment : goal.returns-in_err-add-clause-any_mo
 returns-in_err-add-clause-any_moment g c alive bodies told =
     adds_then g.D.Disk.moment g.D.Disk.left_since c.args.self.now.disk c.reserve.new.self.disk c.add.new.self.disk (BeforeOrAfter c.args.self.now.kind bodies c.args.body.now)
     (reads_adds g.D.Disk.holds g.D.Disk.may_leave g.D.Disk.moment g.D.Disk.left_since g.D.Disk.count g.D.Disk.reserved g.met.D.Disk.counts_now c.args.self.now.disk c.reserve.new.self.disk (BeforeOrAfter c.args.self.now.kind bodies c.args.body.now) c.reserve.ensures.reads)
-    (subst (λ (kind : ℕ). Adds g.D.Disk.moment g.D.Disk.left_since c.reserve.new.self.disk c.add.new.self.disk (BeforeOrAfter kind bodies c.args.body.now)) c.reserve.ensures.same.kind (c.add.ensures.any_moment bodies (c.reserve.ensures.same.bodies ∙ told)))
+    (subst (λ (kind : ℕ). AddsOf g.D.Disk.moment g.D.Disk.left_since c.reserve.new.self.disk c.add.new.self.disk (BeforeOrAfter kind bodies c.args.body.now)) c.reserve.ensures.same.kind (c.add.ensures.any_moment bodies (c.reserve.ensures.same.bodies ∙ told)))
 
 pub returns-clause-any_moment : goal.returns-clause-any_moment
 returns-clause-any_moment g c alive bodies told =
     adds_then g.D.Disk.moment g.D.Disk.left_since c.args.self.now.disk c.reserve.new.self.disk c.add.new.self.disk (BeforeOrAfter c.args.self.now.kind bodies c.args.body.now)
     (reads_adds g.D.Disk.holds g.D.Disk.may_leave g.D.Disk.moment g.D.Disk.left_since g.D.Disk.count g.D.Disk.reserved g.met.D.Disk.counts_now c.args.self.now.disk c.reserve.new.self.disk (BeforeOrAfter c.args.self.now.kind bodies c.args.body.now) c.reserve.ensures.reads)
-    (subst (λ (kind : ℕ). Adds g.D.Disk.moment g.D.Disk.left_since c.reserve.new.self.disk c.add.new.self.disk (BeforeOrAfter kind bodies c.args.body.now)) c.reserve.ensures.same.kind (c.add.ensures.any_moment bodies (c.reserve.ensures.same.bodies ∙ told)))
+    (subst (λ (kind : ℕ). AddsOf g.D.Disk.moment g.D.Disk.left_since c.reserve.new.self.disk c.add.new.self.disk (BeforeOrAfter kind bodies c.args.body.now)) c.reserve.ensures.same.kind (c.add.ensures.any_moment bodies (c.reserve.ensures.same.bodies ∙ told)))
+
+pub returns-in_err-add-clause-side : goal.returns-in_err-add-clause-side
+returns-in_err-add-clause-side g c bodies told =
+    adds_then g.D.Disk.moment g.D.Disk.left_since c.args.self.now.disk c.reserve.new.self.disk c.add.new.self.disk (IsSide c.args.self.now.number)
+    (reads_adds g.D.Disk.holds g.D.Disk.may_leave g.D.Disk.moment g.D.Disk.left_since g.D.Disk.count g.D.Disk.reserved g.met.D.Disk.counts_now c.args.self.now.disk c.reserve.new.self.disk (IsSide c.args.self.now.number) c.reserve.ensures.reads)
+    (subst (λ (n : ℕ). AddsOf g.D.Disk.moment g.D.Disk.left_since c.reserve.new.self.disk c.add.new.self.disk (IsSide n)) c.reserve.ensures.same.number (c.add.ensures.side bodies (c.reserve.ensures.same.bodies ∙ told)))
+
+pub returns-clause-side : goal.returns-clause-side
+returns-clause-side g c bodies told =
+    adds_then g.D.Disk.moment g.D.Disk.left_since c.args.self.now.disk c.reserve.new.self.disk c.add.new.self.disk (IsSide c.args.self.now.number)
+    (reads_adds g.D.Disk.holds g.D.Disk.may_leave g.D.Disk.moment g.D.Disk.left_since g.D.Disk.count g.D.Disk.reserved g.met.D.Disk.counts_now c.args.self.now.disk c.reserve.new.self.disk (IsSide c.args.self.now.number) c.reserve.ensures.reads)
+    (subst (λ (n : ℕ). AddsOf g.D.Disk.moment g.D.Disk.left_since c.reserve.new.self.disk c.add.new.self.disk (IsSide n)) c.reserve.ensures.same.number (c.add.ensures.side bodies (c.reserve.ensures.same.bodies ∙ told)))

@@ -9,17 +9,17 @@ read_one-requires-clause-known g c file is = ((c.self.invariant.kept file is).be
 
 pub invariant_of-self : goal.invariant_of-self
 invariant_of-self g c =
-    log_read g.D.Disk.holds g.D.Disk.may_leave g.D.Disk.moment g.D.Disk.left_since g.D.Disk.count g.D.Disk.reserved c.self.inside.disk c.read_one.new.disk c.self.inside.kind c.self.inside.ready c.self.inside.ready c.self.inside.frames c.read_one.new.frames c.self.inside.tail c.self.inside.tail c.self.inside.ahead c.read_one.new.ahead c.self.inside.shut c.self.invariant c.read_one.ensures.reads c.read_one.ensures.keeps c.read_one.ensures.known
+    log_read g.D.Disk.holds g.D.Disk.may_leave g.D.Disk.moment g.D.Disk.left_since g.D.Disk.count g.D.Disk.reserved c.self.inside.disk c.read_one.new.disk c.self.inside.kind c.self.inside.number c.self.inside.ready c.self.inside.ready c.self.inside.frames c.read_one.new.frames c.self.inside.tail c.self.inside.tail c.self.inside.ahead c.read_one.new.ahead c.self.inside.shut c.self.invariant c.read_one.ensures.reads c.read_one.ensures.keeps c.read_one.ensures.known
     (λ some. room_read g.D.Disk.holds g.D.Disk.may_leave g.D.Disk.moment g.D.Disk.left_since g.D.Disk.count g.D.Disk.reserved c.self.inside.disk c.read_one.new.disk c.self.inside.ready c.self.inside.frames c.read_one.new.frames c.self.inside.tail c.self.inside.tail (c.self.invariant.room some) c.read_one.ensures.reads.room (omega arith) c.read_one.ensures.keeps) c.read_one.ensures.ahead
 
 pub invariant_of-self-in-Err-Memory : goal.invariant_of-self-in-Err-Memory
 invariant_of-self-in-Err-Memory g c =
-    log_read g.D.Disk.holds g.D.Disk.may_leave g.D.Disk.moment g.D.Disk.left_since g.D.Disk.count g.D.Disk.reserved c.self.inside.disk c.read_one.new.disk c.self.inside.kind c.self.inside.ready c.self.inside.ready c.self.inside.frames c.read_one.new.frames c.self.inside.tail c.self.inside.tail c.self.inside.ahead c.read_one.new.ahead c.self.inside.shut c.self.invariant c.read_one.ensures.reads c.read_one.ensures.keeps c.read_one.ensures.known
+    log_read g.D.Disk.holds g.D.Disk.may_leave g.D.Disk.moment g.D.Disk.left_since g.D.Disk.count g.D.Disk.reserved c.self.inside.disk c.read_one.new.disk c.self.inside.kind c.self.inside.number c.self.inside.ready c.self.inside.ready c.self.inside.frames c.read_one.new.frames c.self.inside.tail c.self.inside.tail c.self.inside.ahead c.read_one.new.ahead c.self.inside.shut c.self.invariant c.read_one.ensures.reads c.read_one.ensures.keeps c.read_one.ensures.known
     (λ some. room_read g.D.Disk.holds g.D.Disk.may_leave g.D.Disk.moment g.D.Disk.left_since g.D.Disk.count g.D.Disk.reserved c.self.inside.disk c.read_one.new.disk c.self.inside.ready c.self.inside.frames c.read_one.new.frames c.self.inside.tail c.self.inside.tail (c.self.invariant.room some) c.read_one.ensures.reads.room (omega arith) c.read_one.ensures.keeps) c.read_one.ensures.ahead
 
 pub invariant_of-self-in-Err-Failed : goal.invariant_of-self-in-Err-Failed
 invariant_of-self-in-Err-Failed g c =
-    log_read g.D.Disk.holds g.D.Disk.may_leave g.D.Disk.moment g.D.Disk.left_since g.D.Disk.count g.D.Disk.reserved c.self.inside.disk c.read_one.new.disk c.self.inside.kind c.self.inside.ready c.self.inside.ready c.self.inside.frames c.read_one.new.frames c.self.inside.tail c.self.inside.tail c.self.inside.ahead c.read_one.new.ahead c.self.inside.shut c.self.invariant c.read_one.ensures.reads c.read_one.ensures.keeps c.read_one.ensures.known
+    log_read g.D.Disk.holds g.D.Disk.may_leave g.D.Disk.moment g.D.Disk.left_since g.D.Disk.count g.D.Disk.reserved c.self.inside.disk c.read_one.new.disk c.self.inside.kind c.self.inside.number c.self.inside.ready c.self.inside.ready c.self.inside.frames c.read_one.new.frames c.self.inside.tail c.self.inside.tail c.self.inside.ahead c.read_one.new.ahead c.self.inside.shut c.self.invariant c.read_one.ensures.reads c.read_one.ensures.keeps c.read_one.ensures.known
     (λ some. room_read g.D.Disk.holds g.D.Disk.may_leave g.D.Disk.moment g.D.Disk.left_since g.D.Disk.count g.D.Disk.reserved c.self.inside.disk c.read_one.new.disk c.self.inside.ready c.self.inside.frames c.read_one.new.frames c.self.inside.tail c.self.inside.tail (c.self.invariant.room some) c.read_one.ensures.reads.room (omega arith) c.read_one.ensures.keeps) c.read_one.ensures.ahead
 
 pub returns-in-Ok-clause-body : goal.returns-in-Ok-clause-body
