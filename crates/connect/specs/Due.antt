@@ -87,7 +87,7 @@ module _ {S : Type 0} (player : LinePlayer S) (state : S) (bytes taken rest text
 -- a run that took some of the bytes and wrote what was due
 pub record Drives {S : Type 0} (player : LinePlayer S) (status : Status) (state : S) (bytes : List ℕ)
     (left held_before held_after : Option (List ℕ)) (unwritten : Type 0) (at : S → Type 0)
-        (between : S → S → Type 0) : Type 0 where
+    (between : S → S → Type 0) : Type 0 where
   pub taken : List ℕ
   pub rest : List ℕ
   pub text : List ℕ
@@ -102,5 +102,5 @@ abbrev pub DrivesOver : {S I O : Type 0} → Input I → Output O → LinePlayer
 DrivesOver i o player status state in_old in_new out_old out_new at between =
     (bytes : List ℕ) → i.left in_old ≡ Some bytes →
     Drives player status state bytes (i.left in_new) (o.held out_old) (o.held out_new)
-        (Rose (o.faults out_old) (o.faults out_new))
+    (Rose (o.faults out_old) (o.faults out_new))
     at between

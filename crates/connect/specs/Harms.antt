@@ -96,5 +96,5 @@ abbrev pub IsRefusedAs : {D : Type 0} → Ghosts D → (old new : D) → Opening
 IsRefusedAs d old new cause =
     OnOpeningCause
     (λ at harm.
-      HoldsAlike (d.holds old) (d.holds new) × ((file : List ℕ) → d.holds old ≡ Some file → IsHarmed file at harm))
+    HoldsAlike (d.holds old) (d.holds new) × ((file : List ℕ) → d.holds old ≡ Some file → IsHarmed file at harm))
     (λ count. Rose (d.count old) (d.count new) × (count ≡ d.count new)) (HoldsAlike (d.holds old) (d.holds new)) cause

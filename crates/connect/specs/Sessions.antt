@@ -26,7 +26,7 @@ abbrev pub resumed_by : {D : Type 0} {d : Ghosts D} → ℕ → List ℕ → Ses
 resumed_by k more session =
     with_front session.player.text
     (play play_line true (session.count + 1) (take k (lines_of (session.pending.items ++ more)))
-      (store_of session.player.kept))
+    (store_of session.player.kept))
 
 -- how many bytes a session may still take before a limit ends it
 abbrev pub room : {D : Type 0} {d : Ghosts D} → Session D d → ℕ
@@ -53,7 +53,7 @@ pub record Moves {D : Type 0} {d : Ghosts D} (piece : List ℕ) (old : Session D
   pub later : d.count old.player.kept.log.disk ≤ d.count new.log.disk
   pub moments : IsTold old.player.kept → (more : List ℕ) →
       Adds d old.player.kept.log.disk new.log.disk
-          (IsBehind (λ k. resumed_by k (piece ++ more) old))
+      (IsBehind (λ k. resumed_by k (piece ++ more) old))
 
 -- the same at the end of the script
 pub record MovesLast {D : Type 0} {d : Ghosts D} (old : Session D d) (new : Kept D) : Type 0 where
