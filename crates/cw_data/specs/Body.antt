@@ -18,7 +18,8 @@ abbrev pub values_bytes : List (List ℕ) → List ℕ
 values_bytes values = word (length values) ++ flat_map text values
 
 abbrev pub entry_bytes : DataEntry → List ℕ
-entry_bytes (InBatch batch) = 1 ∷ (tag_bytes batch.tag ++ (text batch.topic ++ (span_bytes (span_of batch) ++ values_bytes batch.values)))
+entry_bytes (InBatch batch) = 1 ∷ (tag_bytes batch.tag
+    ++ (text batch.topic ++ (span_bytes (span_of batch) ++ values_bytes batch.values)))
 entry_bytes (Mark tag committed) = 2 ∷ mark_bytes (record { tag = tag; committed = committed })
 
 -- what has bytes: fewer than 2^32 values, each a text

@@ -29,7 +29,15 @@ named_at from = do
 
 -- a batch of a transaction, a topic, a span and values
 abbrev pub batch_of : Tag → List ℕ × (Span × List (List ℕ)) → DataEntry
-batch_of tag rest = InBatch (record { tag = tag; topic = rest.0; part = rest.1.0.part; from = rest.1.0.from; to = rest.1.0.to; values = rest.1.1 })
+batch_of tag rest = InBatch (record {
+  tag = tag;
+  topic = rest.0;
+  part = rest.1.0.part;
+  from = rest.1.0.from;
+  to =
+      rest.1.0.to;
+  values = rest.1.1;
+})
 
 unfoldable pub stored_at : Unread → Read DataEntry
 stored_at from = do

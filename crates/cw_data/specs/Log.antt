@@ -1,5 +1,5 @@
--- The data log: batches of records, and markers that say how their transactions ended (KIP-98, control records). That a topic's offsets are places in
--- one log of all topics, and that markers take none, is this project's own.
+-- The data log: batches of records, and markers that say how their transactions ended (KIP-98, control records). That
+-- a topic's offsets are places in one log of all topics, and that markers take none, is this project's own.
 use Rattle.std.specs.Prelude.{ℕ, Bool, false, ◌&&◌, List, [], ◌∷◌, map, take, nat_le, Option, None, Some, is_none, unwrap_or, if◌then◌else◌}
 use Rattle.std.specs.Option.{option_map, option_or}
 use Rattle.std.specs.List.{flat_map, filter_map, find, position_or_len, enumerate_from}
@@ -52,7 +52,8 @@ is_commit marker = unwrap_or marker false
 abbrev pub taken : List ℕ → ℕ → List DataEntry → Option (ℕ × List ℕ)
 taken topic from entries =
     option_map {U = ℕ × List ℕ} (λ p. (p.0, p.1.value))
-    (find (λ p. nat_le from p.0 && is_commit (marker_of p.1.tag entries)) (enumerate_from 0 (take (stable topic entries) (records topic entries))))
+    (find (λ p. nat_le from p.0 && is_commit (marker_of p.1.tag entries))
+    (enumerate_from 0 (take (stable topic entries) (records topic entries))))
 
 -- the transaction of a batch
 abbrev pub tag_in : DataEntry → Option Tag
@@ -61,4 +62,5 @@ tag_in (Mark tag committed) = None
 
 -- the first transaction of the log that has ended and has no marker
 abbrev pub first_unmarked : (Tag → Verdict) → List DataEntry → Option Tag
-first_unmarked verdict entries = find (λ tag. is_none (marker_of tag entries) && has_ended (verdict tag)) (filter_map tag_in entries)
+first_unmarked verdict entries =
+    find (λ tag. is_none (marker_of tag entries) && has_ended (verdict tag)) (filter_map tag_in entries)

@@ -1,4 +1,5 @@
--- What the log keeps of a topic: a row a batch, and how far its rows are settled. Internal: no public contract cites this.
+-- What the log keeps of a topic: a row a batch, and how far its rows are settled. Internal: no public contract cites
+-- this.
 use Rattle.std.specs.Prelude.{◌≡◌, ℕ, zero, suc, ◌+◌, ◌≤◌, Bool, true, false, List, [], ◌∷◌, ◌++◌, length, take, drop, Option, None, Some, is_some, slice_get}
 use Rattle.std.specs.Bool.{⊤}
 use Rattle.std.specs.List.{filter, AllByRecursion}
@@ -54,7 +55,8 @@ rows_in place first (suc more) = record { first = first; end = first + suc more;
 abbrev pub rows_from : List ℕ → ℕ → ℕ → List DataEntry → List Row
 rows_from topic place first [] = []
 rows_from topic place first (entry ∷ entries) =
-    rows_in place first (length (records_in topic entry)) ++ rows_from topic (place + 1) (first + length (records_in topic entry)) entries
+    rows_in place first (length (records_in topic entry))
+    ++ rows_from topic (place + 1) (first + length (records_in topic entry)) entries
 
 abbrev pub rows_of : List ℕ → List DataEntry → List Row
 rows_of topic entries = rows_from topic 0 0 entries
@@ -71,7 +73,8 @@ pub record EndsWith (entries : List DataEntry) (place : ℕ) (entry : DataEntry)
 
 -- the passed rows are marked, the committed ones of them stand in front, and the rows behind them are as they were made
 pub record Waits (marks : Marks) (entries : List DataEntry) (name : List ℕ) (topic : Topic) : Type 0 where
-  pub front : take topic.kept topic.rows.items ≡ filter (commits marks entries) (take topic.passed (rows_of name entries))
+  pub front : take topic.kept topic.rows.items
+      ≡ filter (commits marks entries) (take topic.passed (rows_of name entries))
   pub marked : AllByRecursion (λ row. is_marked marks entries row ≡ true) (take topic.passed (rows_of name entries))
   pub back : drop topic.passed topic.rows.items ≡ drop topic.passed (rows_of name entries)
   pub behind : topic.kept ≤ topic.passed

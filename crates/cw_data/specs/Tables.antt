@@ -53,7 +53,8 @@ ended_of verdict (Some batch) = if has_ended (verdict batch.tag) then Some batch
 -- the first transaction that has ended of the batches at these places
 abbrev pub first_ended : (Tag → Verdict) → List DataEntry → List ℕ → Option Tag
 first_ended verdict entries [] = None
-first_ended verdict entries (place ∷ places) = option_or (ended_of verdict (batch_at entries place)) (first_ended verdict entries places)
+first_ended verdict entries (place ∷ places) =
+    option_or (ended_of verdict (batch_at entries place)) (first_ended verdict entries places)
 
 -- the tables are those of the entries
 pub record Keeps (tables : Tables) (entries : List DataEntry) : Type 0 where
@@ -79,11 +80,13 @@ is_named name (Some other) = bytes_eq name other
 abbrev pub is_of_both : Tag → List ℕ → Option Batch → Bool
 is_of_both tag name batch = is_named name (topic_with tag batch)
 
--- a topic whose passed rows are all up to the first one without marker, unless one of these places is a batch of the transaction in that topic
+-- a topic whose passed rows are all up to the first one without marker, unless one of these places is a batch of the
+-- transaction in that topic
 abbrev pub NextAt : Marks → List DataEntry → Tag → List ℕ → List ℕ → Option Topic → Type 0
 NextAt marks entries tag name places None = ⊤
 NextAt marks entries tag name places (Some topic) =
-    list_any (λ place. is_of_both tag name (batch_at entries place)) places ≡ false → BeginsUnmarked marks entries (drop topic.passed (rows_of name entries))
+    list_any (λ place. is_of_both tag name (batch_at entries place)) places ≡ false →
+    BeginsUnmarked marks entries (drop topic.passed (rows_of name entries))
 
 -- how transactions are marked behind a marker of one of them
 abbrev pub after_mark : Marks → Tag → Bool → Marks

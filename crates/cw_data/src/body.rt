@@ -107,7 +107,8 @@ fn read_entry(alloc: Global, from: &mut Reader<'_>) -> Result<DataEntry, FieldFa
 
 // The entry of a body.
 fn read_body(alloc: Global, body: &[u8]) -> Result<DataEntry, BodyFault>
-    ensures { MatchResult result (λ entry. body_at entry_at body.now ≡ Some entry) (λ fault. fault ≢ Memory → body_at entry_at body.now ≡ None) }
+    ensures { MatchResult result (λ entry. body_at entry_at body.now ≡ Some entry) (λ fault. fault ≢ Memory →
+        body_at entry_at body.now ≡ None) }
 {
     let mut from = Reader::new(body);
     match read_entry(alloc, &mut from) {
@@ -130,7 +131,8 @@ pub fn read_data(alloc: Global, body: &[u8]) -> Result<DataEntry, BodyFault>
     // What is read is spelled so, to the last byte.
     ensures found { IfOk result (λ entry. IsEntry entry × (body.now ≡ entry_bytes entry)) }
     // What is spelled so is read.
-    ensures only { (entry : DataEntry) → IsEntry entry → body.now ≡ entry_bytes entry → IfOk result (λ read. read ≡ entry) }
+    ensures only { (entry : DataEntry) → IsEntry entry → body.now ≡ entry_bytes entry →
+        IfOk result (λ read. read ≡ entry) }
     ensures refused { (entry : DataEntry) → IsEntry entry → body.now ≡ entry_bytes entry → result ≢ Err NotBody }
 {
     read_body(alloc, body)
@@ -167,7 +169,8 @@ fn write_entry(into: &mut Writer, entry: &DataEntry) -> Result<(), AllocError>
 
 fn write_batch(into: &mut Writer, batch: &Batch) -> Result<(), AllocError>
     requires { IsShort (DataEntry.Batch batch.now) }
-    ensures ok { OnOk result (into.new ≡ into.old ++ (tag_bytes batch.now.tag ++ (text batch.now.topic ++ (span_bytes (span_of batch.now) ++ values_bytes batch.now.values)))) }
+    ensures ok { OnOk result (into.new ≡ into.old ++ (tag_bytes batch.now.tag
+        ++ (text batch.now.topic ++ (span_bytes (span_of batch.now) ++ values_bytes batch.now.values)))) }
     ensures fits { OnOk result (IsEntry (DataEntry.Batch batch.now)) }
 {
     write_tag(into, &batch.tag)?;

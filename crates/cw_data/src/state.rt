@@ -97,7 +97,10 @@ impl DataState {
 
     /// Makes room for a batch, so that adding it once can't want memory.
     pub fn reserve_batch(&mut self, batch: &Batch) -> Result<(), AllocError>
-        ensures ok { OnOk result (self.new ≡ record self.old { reserved = self.old.reserved ++ DataEntry.Batch batch.now ∷ [] }) }
+        ensures ok { OnOk result (self.new ≡ record self.old {
+          reserved =
+              self.old.reserved ++ DataEntry.Batch batch.now ∷ [];
+        }) }
         ensures err { OnErr result (self.new ≡ self.old) }
     {
         self.reserve(&EntryRef::Batch(batch))
@@ -105,7 +108,10 @@ impl DataState {
 
     /// Makes room for a marker, so that adding it once can't want memory.
     pub fn reserve_mark(&mut self, tag: &Tag, committed: bool) -> Result<(), AllocError>
-        ensures ok { OnOk result (self.new ≡ record self.old { reserved = self.old.reserved ++ DataEntry.Mark tag.now committed ∷ [] }) }
+        ensures ok { OnOk result (self.new ≡ record self.old {
+          reserved =
+              self.old.reserved ++ DataEntry.Mark tag.now committed ∷ [];
+        }) }
         ensures err { OnErr result (self.new ≡ self.old) }
     {
         self.reserve(&EntryRef::Mark { tag, committed })
@@ -182,7 +188,10 @@ impl DataState {
     }
 
     fn reserve(&mut self, entry: &EntryRef<'_>) -> Result<(), AllocError>
-        ensures ok { OnOk result (self.new ≡ record self.old { reserved = self.old.reserved ++ entry_of entry.now ∷ [] }) }
+        ensures ok { OnOk result (self.new ≡ record self.old {
+          reserved =
+              self.old.reserved ++ entry_of entry.now ∷ [];
+        }) }
         ensures err { OnErr result (self.new ≡ self.old) }
     {
         make_room(
@@ -242,7 +251,8 @@ fn has_ended<T: Decided>(txn: &T, tag: &Tag) -> bool
 
 // The first place of an entry in a list.
 fn place_of(entries: &[DataEntry], entry: &EntryRef<'_>) -> Option<usize>
-    ensures { MatchOption result (¬ Contains entries.now (entry_of entry.now)) (λ at. IsFirstAt (entry_of entry.now) entries.now at) }
+    ensures { MatchOption result (¬ Contains entries.now (entry_of entry.now))
+        (λ at. IsFirstAt (entry_of entry.now) entries.now at) }
 {
     for at in 0..entries.len() {
         if entry.is(&entries[at]) {
@@ -281,7 +291,8 @@ fn settle(tables: &mut Tables, entries: &mut Vec<DataEntry>, entry: DataEntry)
     ensures pushed { entries.new.items ≡ entries.old.items ++ entry ∷ [] }
     ensures room { vec_capacity entries.old ≤ vec_capacity entries.new }
     ensures kept { Keeps tables.new entries.new.items }
-    ensures has { (front back : List DataEntry) → HasRoom tables.old (front ++ entry ∷ back) → HasRoom tables.new (front ++ back) }
+    ensures has { (front back : List DataEntry) → HasRoom tables.old (front ++ entry ∷ back) →
+        HasRoom tables.new (front ++ back) }
 {
     let place = entries.len();
     push_made(entries, entry);

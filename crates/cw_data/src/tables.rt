@@ -72,7 +72,8 @@ impl Tables {
         requires last { length entries.now ≡ place + 1 }
         requires kept { Keeps self.old (take place entries.now) }
         requires has { HasRoom self.old (drop place entries.now) }
-        requires fits { (entry : DataEntry) → EndsWith entries.now place entry → FitsBehind (take place entries.now) entry }
+        requires fits { (entry : DataEntry) → EndsWith entries.now place entry →
+            FitsBehind (take place entries.now) entry }
         ensures kept { Keeps self.new entries.now }
         ensures has { (entry : DataEntry) (front back : List DataEntry) → EndsWith entries.now place entry →
             HasRoom self.old (front ++ entry ∷ back) → HasRoom self.new (front ++ back) }
@@ -89,7 +90,8 @@ impl Tables {
         requires has { HasRoom self.old (DataEntry.Batch batch.now ∷ []) }
         requires fits { FitsBehind (take place entries.now) (DataEntry.Batch batch.now) }
         ensures kept { Keeps self.new entries.now }
-        ensures has { (front back : List DataEntry) → HasRoom self.old (front ++ DataEntry.Batch batch.now ∷ back) → HasRoom self.new (front ++ back) }
+        ensures has { (front back : List DataEntry) → HasRoom self.old (front ++ DataEntry.Batch batch.now ∷ back) →
+            HasRoom self.new (front ++ back) }
     {
         let is_unmarked = marker(&self.marks, &batch.tag).is_none();
         push_if(&mut self.unmarked, is_unmarked, place);
@@ -101,7 +103,8 @@ impl Tables {
         requires kept { Keeps self.old (take place entries.now) }
         requires has { HasRoom self.old (DataEntry.Mark tag.now committed ∷ []) }
         ensures kept { Keeps self.new entries.now }
-        ensures has { (front back : List DataEntry) → HasRoom self.old (front ++ DataEntry.Mark tag.now committed ∷ back) → HasRoom self.new (front ++ back) }
+        ensures has { (front back : List DataEntry) →
+            HasRoom self.old (front ++ DataEntry.Mark tag.now committed ∷ back) → HasRoom self.new (front ++ back) }
     {
         mark(&mut self.marks, tag, committed);
         advance_all(
@@ -153,8 +156,10 @@ fn make_topic(
     name: &Name,
     more: usize,
 ) -> Result<(), AllocError>
-    ensures kept { (marks : Marks) (entries : List DataEntry) (q : List ℕ) → TopicAt marks entries q (get name_order topics.old q) → TopicAt marks entries q (get name_order topics.new q) }
-    ensures room { (n : ℕ) (q : List ℕ) → (bytes_eq q name.now ≡ true → n ≤ more) → RoomAt n (get name_order topics.old q) → RoomAt n (get name_order topics.new q) }
+    ensures kept { (marks : Marks) (entries : List DataEntry) (q : List ℕ) →
+        TopicAt marks entries q (get name_order topics.old q) → TopicAt marks entries q (get name_order topics.new q) }
+    ensures room { (n : ℕ) (q : List ℕ) → (bytes_eq q name.now ≡ true → n ≤ more) →
+        RoomAt n (get name_order topics.old q) → RoomAt n (get name_order topics.new q) }
     ensures rows { (q : List ℕ) → IsSome (get name_order topics.old q) → IsSome (get name_order topics.new q) }
     ensures there { OnOk result (IsSome (get name_order topics.new name.now)) }
     ensures more { OnOk result (RoomAt more (get name_order topics.new name.now)) }
@@ -174,8 +179,10 @@ fn reserve_in(
     name: &Name,
     more: usize,
 ) -> Result<(), AllocError>
-    ensures kept { (marks : Marks) (entries : List DataEntry) (q : List ℕ) → TopicAt marks entries q (get name_order topics.old q) → TopicAt marks entries q (get name_order topics.new q) }
-    ensures room { (n : ℕ) (q : List ℕ) → RoomAt n (get name_order topics.old q) → RoomAt n (get name_order topics.new q) }
+    ensures kept { (marks : Marks) (entries : List DataEntry) (q : List ℕ) →
+        TopicAt marks entries q (get name_order topics.old q) → TopicAt marks entries q (get name_order topics.new q) }
+    ensures room { (n : ℕ) (q : List ℕ) → RoomAt n (get name_order topics.old q) →
+        RoomAt n (get name_order topics.new q) }
     ensures rows { (q : List ℕ) → IsSome (get name_order topics.old q) → IsSome (get name_order topics.new q) }
     ensures more { OnOk result (RoomAt more (get name_order topics.new name.now)) }
 {
@@ -217,12 +224,14 @@ fn add_to(
 )
     requires last { EndsWith entries.now place (DataEntry.Batch batch.now) }
     requires has { IsSome (get name_order topics.old batch.now.topic) }
-    requires topics { (name : List ℕ) → TopicAt (marks_in marks.now) (take place entries.now) name (get name_order topics.old name) }
+    requires topics { (name : List ℕ) →
+        TopicAt (marks_in marks.now) (take place entries.now) name (get name_order topics.old name) }
     requires room { RoomAt 1 (get name_order topics.old batch.now.topic) }
     requires fits { FitsBehind (take place entries.now) (DataEntry.Batch batch.now) }
     ensures topics { (name : List ℕ) → TopicAt (marks_in marks.now) entries.now name (get name_order topics.new name) }
     ensures rows { (name : List ℕ) → IsSome (get name_order topics.old name) → IsSome (get name_order topics.new name) }
-    ensures room { (n : ℕ) (name : List ℕ) → RoomAt (n + (if bytes_eq name batch.now.topic then 1 else 0)) (get name_order topics.old name) →
+    ensures room { (n : ℕ) (name : List ℕ) →
+        RoomAt (n + (if bytes_eq name batch.now.topic then 1 else 0)) (get name_order topics.old name) →
         RoomAt n (get name_order topics.new name) }
 {
     let count = batch.values.as_slice().len();
@@ -245,7 +254,8 @@ fn mark(marks: &mut BTreeMap<Tag, Option<bool>>, tag: &Tag, committed: bool)
 
 fn set_marker(marks: &mut BTreeMap<Tag, Option<bool>>, tag: &Tag, committed: bool)
     requires { IsSome (get tag_order marks.old tag.now) }
-    ensures marked { (q : Tag) → marks_in marks.new q ≡ (if same_tag q tag.now then Some committed else marks_in marks.old q) }
+    ensures marked { (q : Tag) → marks_in marks.new q
+        ≡ (if same_tag q tag.now then Some committed else marks_in marks.old q) }
     ensures rows { (q : Tag) → IsSome (get tag_order marks.old q) → IsSome (get tag_order marks.new q) }
 {
     if let Some(marker) = marks.get_mut(tag) {
@@ -262,10 +272,12 @@ fn advance_all(
     tag: &Tag,
 )
     requires waits { (name : List ℕ) → WaitsAt (marks_in marks.now) entries.now name (get name_order topics.old name) }
-    requires next { (name : List ℕ) → NextAt (marks_in marks.now) entries.now tag.now name unmarked.now (get name_order topics.old name) }
+    requires next { (name : List ℕ) →
+        NextAt (marks_in marks.now) entries.now tag.now name unmarked.now (get name_order topics.old name) }
     ensures topics { (name : List ℕ) → TopicAt (marks_in marks.now) entries.now name (get name_order topics.new name) }
     ensures rows { (name : List ℕ) → IsSome (get name_order topics.old name) → IsSome (get name_order topics.new name) }
-    ensures room { (n : ℕ) (name : List ℕ) → RoomAt n (get name_order topics.old name) → RoomAt n (get name_order topics.new name) }
+    ensures room { (n : ℕ) (name : List ℕ) → RoomAt n (get name_order topics.old name) →
+        RoomAt n (get name_order topics.new name) }
 {
     for place in unmarked {
         advance_at(topics, marks, entries, *place, tag);
@@ -283,9 +295,11 @@ fn advance_at(
     requires { (name : List ℕ) → WaitsAt (marks_in marks.now) entries.now name (get name_order topics.old name) }
     ensures advanced { (name : List ℕ) → is_of_both tag.now name (batch_at entries.now place) ≡ true →
         TopicAt (marks_in marks.now) entries.now name (get name_order topics.new name) }
-    ensures others { (name : List ℕ) → is_of_both tag.now name (batch_at entries.now place) ≡ false → get name_order topics.new name ≡ get name_order topics.old name }
+    ensures others { (name : List ℕ) → is_of_both tag.now name (batch_at entries.now place) ≡ false →
+        get name_order topics.new name ≡ get name_order topics.old name }
     ensures rows { (name : List ℕ) → IsSome (get name_order topics.old name) → IsSome (get name_order topics.new name) }
-    ensures room { (n : ℕ) (name : List ℕ) → RoomAt n (get name_order topics.old name) → RoomAt n (get name_order topics.new name) }
+    ensures room { (n : ℕ) (name : List ℕ) → RoomAt n (get name_order topics.old name) →
+        RoomAt n (get name_order topics.new name) }
 {
     match topic_with(entries, place, tag) {
         Some(topic) => advance(topics, marks, entries, topic),
@@ -312,10 +326,13 @@ fn advance(
     topic: &Name,
 )
     requires { WaitsAt (marks_in marks.now) entries.now topic.now (get name_order topics.old topic.now) }
-    ensures advanced { (name : List ℕ) → bytes_eq name topic.now ≡ true → TopicAt (marks_in marks.now) entries.now name (get name_order topics.new name) }
-    ensures others { (name : List ℕ) → bytes_eq name topic.now ≡ false → get name_order topics.new name ≡ get name_order topics.old name }
+    ensures advanced { (name : List ℕ) → bytes_eq name topic.now ≡ true →
+        TopicAt (marks_in marks.now) entries.now name (get name_order topics.new name) }
+    ensures others { (name : List ℕ) → bytes_eq name topic.now ≡ false →
+        get name_order topics.new name ≡ get name_order topics.old name }
     ensures rows { (name : List ℕ) → IsSome (get name_order topics.old name) → IsSome (get name_order topics.new name) }
-    ensures room { (n : ℕ) (name : List ℕ) → RoomAt n (get name_order topics.old name) → RoomAt n (get name_order topics.new name) }
+    ensures room { (n : ℕ) (name : List ℕ) → RoomAt n (get name_order topics.old name) →
+        RoomAt n (get name_order topics.new name) }
 {
     match topics.get_mut(topic) {
         Some(kept) => kept.advance(entries, marks),
@@ -325,7 +342,8 @@ fn advance(
 
 // Takes the batches of a transaction out of those without marker.
 fn remove_marked(unmarked: &mut Vec<usize>, entries: &[DataEntry], tag: &Tag)
-    ensures items { unmarked.new.items ≡ filter (λ place. not (is_of_tag tag.now (batch_at entries.now place))) unmarked.old.items }
+    ensures items { unmarked.new.items ≡ filter
+        (λ place. not (is_of_tag tag.now (batch_at entries.now place))) unmarked.old.items }
     ensures room { vec_capacity unmarked.old ≤ vec_capacity unmarked.new }
     ensures len { vec_len unmarked.new ≤ vec_len unmarked.old }
 {

@@ -36,7 +36,8 @@ pub struct Topic {
 impl Topic {
     /// With no batch.
     pub fn new(alloc: Global) -> Topic
-        ensures { (marks : Marks) (entries : List DataEntry) (name : List ℕ) → records name entries ≡ [] → IsTopic marks entries name result }
+        ensures { (marks : Marks) (entries : List DataEntry) (name : List ℕ) → records name entries ≡ [] →
+            IsTopic marks entries name result }
     {
         Topic {
             end: 0,
@@ -68,7 +69,8 @@ impl Topic {
 
     /// Room for so many rows more.
     pub fn reserve(&mut self, more: usize) -> Result<(), AllocError>
-        ensures same { (self.new.rows.items ≡ self.old.rows.items) × (self.new.end ≡ self.old.end) × (self.new.kept ≡ self.old.kept) × (self.new.passed ≡ self.old.passed) }
+        ensures same { (self.new.rows.items ≡ self.old.rows.items) × (self.new.end ≡ self.old.end)
+            × (self.new.kept ≡ self.old.kept) × (self.new.passed ≡ self.old.passed) }
         ensures room { vec_capacity self.old.rows ≤ vec_capacity self.new.rows }
         ensures more { OnOk result (vec_len self.new.rows + more ≤ vec_capacity self.new.rows) }
     {
@@ -86,8 +88,10 @@ impl Topic {
         requires sound { IsSound self.old }
         requires room { vec_len self.old.rows < vec_capacity self.old.rows }
         requires fits { self.old.end + count < 2 ^ 64 }
-        ensures topic { (name : List ℕ) (entry : DataEntry) → EndsWith entries.now place entry → count ≡ length (records_in name entry) →
-            IsTopic (marks_in marks.now) (take place entries.now) name self.old → IsTopic (marks_in marks.now) entries.now name self.new }
+        ensures topic { (name : List ℕ) (entry : DataEntry) → EndsWith entries.now place entry →
+            count ≡ length (records_in name entry) →
+            IsTopic (marks_in marks.now) (take place entries.now) name self.old →
+            IsTopic (marks_in marks.now) entries.now name self.new }
         ensures room { vec_capacity self.old.rows ≤ vec_capacity self.new.rows }
         ensures more { vec_len self.new.rows ≤ vec_len self.old.rows + 1 }
     {
@@ -117,8 +121,10 @@ impl Topic {
     /// Passes the batches that have a marker, up to the first one that has none.
     pub fn advance(&mut self, entries: &[DataEntry], marks: &BTreeMap<Tag, Option<bool>>)
         requires { IsSound self.old }
-        ensures topic { (name : List ℕ) → Waits (marks_in marks.now) entries.now name self.old → IsTopic (marks_in marks.now) entries.now name self.new }
-        ensures same { (vec_len self.new.rows ≡ vec_len self.old.rows) × (vec_capacity self.new.rows ≡ vec_capacity self.old.rows) }
+        ensures topic { (name : List ℕ) → Waits (marks_in marks.now) entries.now name self.old →
+            IsTopic (marks_in marks.now) entries.now name self.new }
+        ensures same { (vec_len self.new.rows ≡ vec_len self.old.rows)
+            × (vec_capacity self.new.rows ≡ vec_capacity self.old.rows) }
     {
         while self.passed < self.rows.len() {
             let row = self.rows[self.passed];
@@ -134,11 +140,13 @@ impl Topic {
         requires within { self.old.passed < length self.old.rows.items }
         requires behind { self.old.kept ≤ self.old.passed }
         requires there { row ≡ slice_index_or self.old.rows.items self.old.passed row }
-        ensures waits { (marks : Marks) (entries : List DataEntry) (name : List ℕ) → mark_at marks entries row.place ≡ Some committed →
+        ensures waits { (marks : Marks) (entries : List DataEntry) (name : List ℕ) →
+            mark_at marks entries row.place ≡ Some committed →
             Waits marks entries name self.old → Waits marks entries name self.new }
         ensures sound { IsSound self.new }
         ensures passed { self.new.passed ≡ self.old.passed + 1 }
-        ensures same { (vec_len self.new.rows ≡ vec_len self.old.rows) × (vec_capacity self.new.rows ≡ vec_capacity self.old.rows) }
+        ensures same { (vec_len self.new.rows ≡ vec_len self.old.rows)
+            × (vec_capacity self.new.rows ≡ vec_capacity self.old.rows) }
     {
         if committed {
             self.keep(row);
@@ -151,7 +159,8 @@ impl Topic {
         requires { self.old.kept < length self.old.rows.items }
         ensures rows { self.new.rows.items ≡ slice_set self.old.rows.items self.old.kept row }
         ensures kept { self.new.kept ≡ self.old.kept + 1 }
-        ensures same { (self.new.end ≡ self.old.end) × (self.new.passed ≡ self.old.passed) × (vec_capacity self.new.rows ≡ vec_capacity self.old.rows) }
+        ensures same { (self.new.end ≡ self.old.end) × (self.new.passed ≡ self.old.passed)
+            × (vec_capacity self.new.rows ≡ vec_capacity self.old.rows) }
     {
         self.rows[self.kept] = row;
         self.kept += 1;
