@@ -1,8 +1,9 @@
-//! A plain program that opens a transaction log of scripts' producers or connectors' tasks, with std's hash maps and no proof: the
-//! yardstick for the time of an opening. `plain_opening LOG` reads the log whole, walks its frames, keeps the epoch of each producer
-//! and the end of each part, and panics where a commit isn't under its producer's epoch, a script's isn't numbered by its place,
-//! or a span doesn't begin where its part ended. It makes nothing of a damaged log.
-use std::collections::HashMap;
+//! A plain program that opens a transaction log of scripts' producers or connectors' tasks, with std's hash tables and no proof: the
+//! yardstick for an opening. `plain_opening LOG` reads the log whole, walks its frames, keeps what answers a coordinator's three
+//! questions (the epoch of each producer, the end of each part, the committed transactions), and panics where a commit isn't under
+//! its producer's epoch or is there already, a script's isn't numbered by its place, or a span doesn't begin where its part ended.
+//! It makes nothing of a damaged log.
+use std::collections::{HashMap, HashSet};
 use std::hash::Hash;
 
 /// The bytes of one body that are still to be read.
@@ -49,7 +50,7 @@ impl<'a> Reader<'a> {
     }
 }
 
-#[derive(PartialEq, Eq, Hash)]
+#[derive(Clone, PartialEq, Eq, Hash)]
 enum Producer {
     Script(u32),
     Task(Vec<u8>, u32),
@@ -95,10 +96,11 @@ fn script_part(part: &Part) -> Option<u32> {
     }
 }
 
-/// The epochs and ends of the entries so far, and their number.
+/// The epochs, ends and transactions of the entries so far, and their number.
 struct Opened {
     epochs: Table<Producer>,
     ends: Table<Part>,
+    committed: HashSet<(Producer, u64, u64)>,
     entries: u64,
 }
 
@@ -122,8 +124,10 @@ impl Opened {
     fn take_commit(&mut self, from: &mut Reader<'_>) {
         let producer = from.producer();
         let number = script_producer(&producer);
-        assert_eq!(from.u64(), *self.epochs.value(number, producer), "another epoch");
+        let epoch = from.u64();
+        assert_eq!(epoch, *self.epochs.value(number, producer.clone()), "another epoch");
         let place = from.u64();
+        assert!(self.committed.insert((producer, epoch, place)), "a transaction that is there");
         assert!(number.is_none() || place == self.entries, "another place");
         from.u64();
         for _ in 0..from.u32() {
@@ -139,7 +143,7 @@ impl Opened {
 fn main() {
     let path = std::env::args().nth(1).expect("the path of a log");
     let log = std::fs::read(path).expect("a log");
-    let mut opened = Opened { epochs: Table::new(), ends: Table::new(), entries: 0 };
+    let mut opened = Opened { epochs: Table::new(), ends: Table::new(), committed: HashSet::new(), entries: 0 };
     let mut frames = Reader(&log[16..]);
     while frames.byte() == 1 {
         let length = frames.u32() as usize;

@@ -7,9 +7,9 @@ use Rattle.cw_types.specs.declared.ids.Tid.{Tid}
 use Rattle.cw_types.specs.declared.ids.Tag.{Tag}
 use Rattle.cw_types.specs.declared.ids.Span.{Span}
 use Rattle.cw_types.specs.declared.ids.PartKey.{PartKey}
-use Rattle.cw_disk.specs.Disk.{Adds}
+use Rattle.cw_disk.specs.Disk.{AddsOf}
 use Rattle.cw_disk.proofs.Moments.{adds_then, adds_weaker}
-use Rattle.cw_log.specs.Calls.{Reads}
+use Rattle.cw_disk.specs.Told.{ReadsOf}
 use Rattle.cw_log.specs.Log.{StandsFor, BeforeOrAfter, length_of}
 use Rattle.cw_log.specs.State.{LogState, IsSameLog}
 use Rattle.cw_log.proofs.Gates.{told_before, reads_adds}
@@ -189,8 +189,8 @@ module _ {D : Type 0} (old : LogState D) (entries : List Entry) (kept : IsKept o
     -- a stop while the log takes memory and appends
     pub adds_between : (holds : D → Option (List ℕ)) (may_leave : D → List ℕ → Type 0) (moment : D → ℕ) (left_since : D → ℕ → List ℕ → Type 0) (count reserved : D → ℕ)
         → ((disk : D) (t : ℕ) (image : List ℕ) → t ≤ moment disk → may_leave disk image → left_since disk t image) → (mid new : LogState D) → has_room entry (sized entries old.length) ≡ true
-        → IsSameLog old mid → Reads holds may_leave moment left_since count reserved old.disk mid.disk → (bodies : List (List ℕ)) → old.bodies ≡ Some bodies
-        → Adds moment left_since mid.disk new.disk (BeforeOrAfter mid.kind bodies body) → Adds moment left_since old.disk new.disk (IsBetween entry (sized entries old.length))
+        → IsSameLog old mid → ReadsOf holds may_leave moment left_since count reserved old.disk mid.disk → (bodies : List (List ℕ)) → old.bodies ≡ Some bodies
+        → AddsOf moment left_since mid.disk new.disk (BeforeOrAfter mid.kind bodies body) → AddsOf moment left_since old.disk new.disk (IsBetween entry (sized entries old.length))
     adds_between holds may_leave moment left_since count reserved counts_now mid new room same reads bodies told run =
         adds_then moment left_since old.disk mid.disk new.disk (IsBetween entry (sized entries old.length))
         (reads_adds holds may_leave moment left_since count reserved counts_now old.disk mid.disk (IsBetween entry (sized entries old.length)) reads)

@@ -1,6 +1,7 @@
 -- How a text falls into lines.
-use Rattle.std.proofs.Common.{◌≡◌, ℕ, zero, suc, ◌<◌, ◌≤◌, List, [], ◌∷◌, ◌++◌, length, get_or, take, drop, nat_eq, Bool, true, false, cond, refl, ap, ◌∙◌, arith, eqb-true}
-use Rattle.connect.specs.Lines.{onto_first, lines_of, is_line}
+use Rattle.std.proofs.Common.{◌≡◌, ℕ, ◌+◌, zero, suc, ◌<◌, ◌≤◌, List, [], ◌∷◌, ◌++◌, length, get_or, take, drop, nat_eq, Bool, true, false, cond, refl, ap, ◌∙◌, arith, eqb-true, zero-add}
+use Rattle.std.proofs.lemmas.List.Sums.{sum_by-append, sum_by-cons}
+use Rattle.connect.specs.Lines.{onto_first, lines_of, line_ends, is_line}
 
 -- both sides of a test that must fail
 pub both : (b x : Bool) → cond b false x ≡ true → (b ≡ false) × (x ≡ true)
@@ -17,6 +18,30 @@ is_line-append [] ys front back = back
 is_line-append (c ∷ cs) ys front back =
     let parts = both (nat_eq c 10) (is_line cs) front in
     rw parts.0 (is_line-append cs ys parts.1 back)
+
+pub line_ends-none : line_ends [] ≡ 0
+unfolding line_ends
+line_ends-none = refl
+
+pub line_ends-one : line_ends (10 ∷ []) ≡ 1
+unfolding line_ends
+line_ends-one = refl
+
+pub line_ends-append : (xs ys : List ℕ) → line_ends (xs ++ ys) ≡ line_ends xs + line_ends ys
+unfolding line_ends
+line_ends-append xs ys = sum_by-append (λ x. cond (nat_eq x 10) 1 0) xs ys
+
+-- a line has no line end
+pub line_ends-line : (xs : List ℕ) → is_line xs ≡ true → line_ends xs ≡ 0
+unfolding is_line line_ends
+line_ends-line [] whole = refl
+line_ends-line (c ∷ cs) whole =
+    let parts = both (nat_eq c 10) (is_line cs) whole in
+    sum_by-cons (λ x. cond (nat_eq x 10) 1 0) c cs ∙ rw parts.0 (zero-add _ ∙ line_ends-line cs parts.1)
+
+-- and with one behind it, one
+pub line_ends-ended : (xs : List ℕ) → is_line xs ≡ true → line_ends (xs ++ 10 ∷ []) ≡ 1
+line_ends-ended xs whole = omega (arith, line_ends-append xs (10 ∷ []), line_ends-line xs whole, line_ends-one)
 
 -- a text in which no byte is a line end
 pub is_line-none : (xs : List ℕ) → ((j : ℕ) → 0 ≤ j → j < length xs → nat_eq (get_or xs j 0) 10 ≡ true → ⊥) → is_line xs ≡ true

@@ -21,7 +21,8 @@ use Rattle.connect.specs.declared.status.Status.{Status}
 use Rattle.connect.specs.declared.status.Status.TheVariants.{Full}
 use Rattle.connect.specs.Cuts.{committing, is_bad_cut, span_of}
 use Rattle.connect.specs.Lines.{lines_of}
-use Rattle.connect.specs.Run.{Played, passed, goes_on, within_limits, commit_entry, cut_answer, answer_of, play_answer, play_reading, play_line, play_last, play, behind_lines}
+use Rattle.connect.specs.Plays.{Played, passed, goes_on, within_limits, play_last, play, behind_lines}
+use Rattle.connect.specs.Run.{commit_entry, cut_answer, answer_of, play_answer, play_reading, play_line}
 use Rattle.connect.specs.Store.{Store, IsSafe, has_room, frame_of, with_entry}
 use Rattle.connect.proofs.EventLemmas.{safe_bump, safe_commit}
 use Rattle.connect.proofs.Numbering.{next_of_script}
@@ -84,37 +85,37 @@ played_reading number line store (Ok None) is good = good
 played_reading number line store (Ok (Some d)) is good = played_answer number store (answer_of d store) good (answered d store (line_sayable line d is) good)
 played_reading number line store (Err kind) is good = good
 
-limited : (many long : Bool) (one two p : Played) → IsSafe one.store.entries → IsSafe two.store.entries → IsSafe p.store.entries → IsSafe (cond many one (cond long two p)).store.entries
+limited : (many long : Bool) (one two p : Played Store) → IsSafe one.store.entries → IsSafe two.store.entries → IsSafe p.store.entries → IsSafe (cond many one (cond long two p)).store.entries
 limited true long one two p first second third = first
 limited false true one two p first second third = second
 limited false false one two p first second third = third
 
-within : (number : ℕ) (line : List ℕ) (store : Store) (p : Played) → IsSafe store.entries → IsSafe p.store.entries → IsSafe (within_limits number line store p).store.entries
+within : (number : ℕ) (line : List ℕ) (store : Store) (p : Played Store) → IsSafe store.entries → IsSafe p.store.entries → IsSafe (within_limits number line store p).store.entries
 within number line store p good done = limited (nat_lt 1000000 number) (nat_lt 65536 (length line)) _ _ p good good done
 
 line_keeps : (number : ℕ) (line : List ℕ) (store : Store) → IsSafe store.entries → IsSafe (play_line number line store).store.entries
 unfolding play_line
 line_keeps number line store good = within number line store (play_reading number store (line_of line)) good (played_reading number line store (line_of line) refl good)
 
-last_keeps : (ended : Bool) (number : ℕ) (line : List ℕ) (store : Store) → IsSafe store.entries → IsSafe (play_last ended number line store).store.entries
+last_keeps : (ended : Bool) (number : ℕ) (line : List ℕ) (store : Store) → IsSafe store.entries → IsSafe (play_last play_line ended number line store).store.entries
 unfolding play_last
 last_keeps ended number [] store good = good
 last_keeps true number (c ∷ cs) store good = line_keeps number (c ∷ cs) store good
 last_keeps false number (c ∷ cs) store good = within number (c ∷ cs) store (passed store) good good
 
-onward : (stop : Option Status) (text : List ℕ) (store : Store) (next : Store → Played) → IsSafe store.entries → (IsSafe store.entries → IsSafe (next store).store.entries) → IsSafe (goes_on stop text store next).store.entries
+onward : (stop : Option Status) (text : List ℕ) (store : Store) (next : Store → Played Store) → IsSafe store.entries → (IsSafe store.entries → IsSafe (next store).store.entries) → IsSafe (goes_on stop text store next).store.entries
 onward None text store next good more = more good
 onward (Some status) text store next good more = good
 
-keeps : (ended : Bool) (number : ℕ) (lines : List (List ℕ)) (store : Store) → IsSafe store.entries → IsSafe (play ended number lines store).store.entries
+keeps : (ended : Bool) (number : ℕ) (lines : List (List ℕ)) (store : Store) → IsSafe store.entries → IsSafe (play play_line ended number lines store).store.entries
 unfolding play
 keeps ended number [] store good = good
 keeps ended number (line ∷ []) store good = last_keeps ended number line store good
 keeps ended number (line ∷ next ∷ lines) store good =
     let first = play_line number line store in
-    onward first.stop first.text first.store (λ after. play ended (number + 1) (next ∷ lines) after) (line_keeps number line store good)
+    onward first.stop first.text first.store (λ after. play play_line ended (number + 1) (next ∷ lines) after) (line_keeps number line store good)
     (λ better. keeps ended (number + 1) (next ∷ lines) first.store better)
 
 -- behind any lines
-pub lines_are_safe : (k : ℕ) (bytes : List ℕ) (store : Store) → IsSafe store.entries → IsSafe (behind_lines k bytes store).store.entries
+pub lines_are_safe : (k : ℕ) (bytes : List ℕ) (store : Store) → IsSafe store.entries → IsSafe (behind_lines play_line k bytes store).store.entries
 lines_are_safe k bytes store good = keeps true 1 (take k (lines_of bytes)) store good

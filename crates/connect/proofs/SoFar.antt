@@ -1,8 +1,8 @@
 -- A drive so far: what was read and written, and what the session has still to play.
-use Rattle.std.proofs.Common.{◌≡◌, ⊎_elim, inl, inr, ◌≤◌, ℕ, ◌+◌, List, [], ◌∷◌, ◌++◌, length, take, Bool, true, false, Option, Some, None, option_map, refl, sym, ap, subst, ◌∙◌, arith, append_assoc}
+use Rattle.std.proofs.Common.{◌≡◌, ◌⊎◌, ⊎_elim, inl, inr, ◌≤◌, ℕ, ◌+◌, List, [], ◌∷◌, ◌++◌, length, take, Bool, true, false, Option, Some, None, option_map, refl, sym, ap, subst, ◌∙◌, arith, append_assoc, ◌<◌, length-append, length-take}
 use Rattle.std.proofs.lemmas.List.{append-nil, take_all}
 use Rattle.std.proofs.lemmas.Grind.{common_steps}
-use Rattle.cw_disk.specs.Disk.{Adds}
+use Rattle.cw_disk.specs.Told.{Adds}
 use Rattle.cw_disk.proofs.Moments.{adds_weaker, adds_then}
 use Rattle.cw_types.specs.Faults.{Rose}
 use Rattle.cw_types.specs.declared.logs.DiskName.TheVariants.{Txn}
@@ -10,15 +10,18 @@ use Rattle.cw_disk.specs.declared.device.Disk.{Ghosts}
 use Rattle.connect.specs.declared.session.Session.{Session}
 use Rattle.connect.specs.declared.status.Status.{Status}
 use Rattle.connect.specs.declared.status.Status.TheVariants.{Done, Usage, BadScript, TooLong, ReadFault, WriteFault, StoreFault, Damaged, Full, Memory}
-use Rattle.connect.specs.Lines.{lines_of}
-use Rattle.connect.specs.Run.{Played, passed, with_front, play, run, run_so_far, behind_lines}
+use Rattle.connect.specs.Lines.{lines_of, line_ends}
+use Rattle.connect.specs.Plays.{Played, passed, with_front, play, run, run_so_far, behind_lines}
+use Rattle.connect.specs.Run.{play_line}
 use Rattle.connect.specs.Statuses.{is_own}
 use Rattle.connect.specs.Store.{Store, Kept, IsImage, store_of}
-use Rattle.connect.specs.Outcomes.{Plays, PlaysPart, IsDue, Drives}
-use Rattle.connect.specs.Sessions.{IsPrefix, resumed, resumed_by, Goes, IsBehind, Moves, MovesLast, Ends, HasRisen, Stops, IsFresh}
-use Rattle.connect.specs.Sessions.Ends.{own, cut, broken}
-use Rattle.connect.specs.Drives.{Writes, PlaysPiece, EndsInPiece, EndsDone, EndsAtEnd, Caused}
+use Rattle.connect.specs.Due.{most_piece, AreRead, Plays, IsAnsweredBefore, IsDue, Drives}
+use Rattle.connect.specs.Plays.{IsPrefix}
+use Rattle.connect.specs.Sessions.{resumed, resumed_by, Goes, IsBehind, Moves, MovesLast, Ends, HasRisen, Stops, IsFresh}
+use Rattle.connect.specs.Sessions.Ends.{own, wanted, unsaid, broken}
+use Rattle.connect.specs.Drives.{Writes, PlaysPiece, EndsInPiece, EndsDone, EndsLast, Caused}
 use Rattle.connect.specs.Players.{PlayerState, IsTold, IsAt, LeavesEither}
+use Rattle.connect.proofs.LineLemmas.{line_ends-append}
 use Rattle.connect.proofs.PlayLemmas.{play-begun}
 use Rattle.connect.proofs.EndLemmas.{prefix_then, prefix_same, ends_then, goes_none, goes_then, moves_none, moves_then, stops_then}
 
@@ -58,74 +61,97 @@ left_of bytes taken before (Some rest) told took = let same = sym told ∙ took 
 -- a run that was cut is no longer
 pub steps_all : {D : Type 0} {d : Ghosts D} (bytes : List ℕ) (session : Session D d) → resumed_by (length (lines_of (session.pending.items ++ bytes))) bytes session ≡ resumed true bytes session
 steps_all bytes session =
-    ap (λ (ls : List (List ℕ)). with_front session.player.text (play true (session.count + 1) ls (store_of session.player.kept)))
+    ap (λ (ls : List (List ℕ)). with_front session.player.text (play play_line true (session.count + 1) ls (store_of session.player.kept)))
     (take_all (length (lines_of (session.pending.items ++ bytes))) (lines_of (session.pending.items ++ bytes)) (omega arith))
 
-module _ (at : Store → Type 0) (between : Store → Store → Type 0) (failed : ℕ → Type 0) (unwritten : Type 0) where
+module _ (at : Store → Type 0) (between : Store → Store → Type 0) (failed : ℕ → Type 0) (unwritten : Type 0) (is_read : ℕ → Type 0) where
   -- the store is that behind some lines where the disk didn't fail
-  module _ (status : Status) (steps : ℕ → Played) (whole : Played) (text : List ℕ) (all : ℕ) (is_all : steps all ≡ whole) where
+  module _ (status : Status) (steps : ℕ → Played Store) (whole : Played Store) (text : List ℕ) where
     -- answers of which a first part was written
     pub ends_unwritten : (part : List ℕ) → IsPrefix part text → unwritten → ((disk : _) (count : ℕ) → status ≡ StoreFault disk count → ⊥)
-        → Ends at between failed ⊥ status steps whole text → Ends at between failed unwritten WriteFault steps whole part
-    ends_unwritten part begins rose calm (own e) = cut (record {
-      cause = inr (refl, rose);
-      lines = all;
-      part = prefix_then part text (steps all).text begins (prefix_same text (steps all).text (sym e.said ∙ sym (ap (λ (p : Played). p.text) is_all)));
-      first = prefix_then part text whole.text begins (prefix_same text whole.text (sym e.said));
-      left = subst at (sym (ap (λ (p : Played). p.store) is_all)) e.left;
-    })
-    ends_unwritten part begins rose calm (cut e) = cut (record {
-      cause = inr (refl, rose);
+        → Ends at between failed ⊥ is_read status steps whole text → Ends at between failed unwritten is_read WriteFault steps whole part
+    ends_unwritten part begins rose calm (own e) = unsaid (record {
+      fault = refl;
+      because = rose;
       lines = e.lines;
-      part = prefix_then part text (steps e.lines).text begins e.part;
-      first = prefix_then part text whole.text begins e.first;
-      left = e.left;
+      read = e.read;
+      part = prefix_then part text (steps e.lines).text begins (prefix_same text (steps e.lines).text (sym e.said_by));
+      left = e.left_by;
     })
+    ends_unwritten part begins rose calm (wanted e) = ⊎_elim
+        (λ here. unsaid (record {
+          fault = refl;
+          because = rose;
+          lines = e.lines;
+          read = e.read;
+          part = prefix_then part text (steps e.lines).text begins (prefix_same text (steps e.lines).text (sym e.said));
+          left = here;
+        }))
+        (λ next. unsaid (record {
+          fault = refl;
+          because = rose;
+          lines = e.lines + 1;
+          read = next.read;
+          part = prefix_then part text (steps (e.lines + 1)).text begins next.part;
+          left = next.left;
+        })) e.left
+    ends_unwritten part begins rose calm (unsaid e) = absurd e.because
     ends_unwritten part begins rose calm (broken e) = absurd (calm Txn e.count e.fault)
 
     -- or all of them
-    pub ends_written : Ends at between failed ⊥ status steps whole text → Ends at between failed unwritten status steps whole text
+    pub ends_written : Ends at between failed ⊥ is_read status steps whole text → Ends at between failed unwritten is_read status steps whole text
     ends_written (own e) = own e
-    ends_written (cut e) = cut (record { cause = ⊎_elim (λ memory. inl memory) (λ w. absurd w.1) e.cause; lines = e.lines; part = e.part; first = e.first; left = e.left })
-    ends_written (broken e) = broken (record { count = e.count; fault = e.fault; risen = e.risen; lines = e.lines; part = e.part; exact = ⊎_elim (λ is. inl is) (λ w. absurd w) e.exact; left = e.left })
+    ends_written (wanted e) = wanted e
+    ends_written (unsaid e) = absurd e.because
+    ends_written (broken e) = broken (record { count = e.count; fault = e.fault; risen = e.risen; lines = e.lines; read = e.read; said = ⊎_elim (λ is. inl is) (λ w. absurd w.0) e.said; left = e.left })
 
     -- the disk failed, and writing failed too
     pub ends_both : (part : List ℕ) → IsPrefix part text → unwritten → (disk : _) (count : ℕ) → status ≡ StoreFault disk count
-        → Ends at between failed ⊥ status steps whole text → Ends at between failed unwritten status steps whole part
+        → Ends at between failed ⊥ is_read status steps whole text → Ends at between failed unwritten is_read status steps whole part
     ends_both part begins rose disk count is (own e) = absurd (let wrong : true ≡ false = sym e.own ∙ ap is_own is in cc)
-    ends_both part begins rose disk count is (cut e) = absurd (⊎_elim (λ memory. let wrong = sym is ∙ memory in cc) (λ w. w.1) e.cause)
+    ends_both part begins rose disk count is (wanted e) = absurd (let wrong = sym is ∙ e.memory in cc)
+    ends_both part begins rose disk count is (unsaid e) = absurd e.because
     ends_both part begins rose disk count is (broken e) = broken (record {
       count = e.count;
       fault = e.fault;
       risen = e.risen;
       lines = e.lines;
-      part = prefix_then part text (steps e.lines).text begins e.part;
-      exact = inr rose;
+      read = e.read;
+      said = inr (rose, ⊎_elim (λ said. prefix_then part text (steps e.lines).text begins (prefix_same text (steps e.lines).text (sym said))) (λ w. absurd w.0) e.said);
       left = e.left;
     })
 
-  -- what is due at each end
-  module _ (store : Store) (bytes taken rest text : List ℕ) where
-    own_due : (status : Status) → is_own status ≡ true → Plays (run store bytes) (Some status) text at → IsDue status store bytes taken rest text unwritten at between
-    own_due (BadScript line kind) mine plays = plays
-    own_due (TooLong count) mine plays = plays
-    own_due (Full log length frame) mine plays = plays
-    own_due Done mine plays = absurd (let wrong : false ≡ true = mine in cc)
-    own_due Usage mine plays = absurd (let wrong : false ≡ true = mine in cc)
-    own_due ReadFault mine plays = absurd (let wrong : false ≡ true = mine in cc)
-    own_due WriteFault mine plays = absurd (let wrong : false ≡ true = mine in cc)
-    own_due (StoreFault disk count) mine plays = absurd (let wrong : false ≡ true = mine in cc)
-    own_due (Damaged disk at harm) mine plays = absurd (let wrong : false ≡ true = mine in cc)
-    own_due Memory mine plays = absurd (let wrong : false ≡ true = mine in cc)
+-- what is due at each end
+module _ (at : Store → Type 0) (between : Store → Store → Type 0) (failed : ℕ → Type 0) (unwritten : Type 0) (store : Store) (bytes taken rest text : List ℕ) where
+  own_due : (status : Status) → is_own status ≡ true → Plays (run play_line store bytes) (Some status) text at → IsDue play_line store bytes taken rest text status unwritten at between
+  own_due (BadScript line kind) mine plays = plays
+  own_due (TooLong count) mine plays = plays
+  own_due (Full log length frame) mine plays = plays
+  own_due Done mine plays = absurd (let wrong : false ≡ true = mine in cc)
+  own_due Usage mine plays = absurd (let wrong : false ≡ true = mine in cc)
+  own_due ReadFault mine plays = absurd (let wrong : false ≡ true = mine in cc)
+  own_due WriteFault mine plays = absurd (let wrong : false ≡ true = mine in cc)
+  own_due (StoreFault disk count) mine plays = absurd (let wrong : false ≡ true = mine in cc)
+  own_due (Damaged disk at harm) mine plays = absurd (let wrong : false ≡ true = mine in cc)
+  own_due Memory mine plays = absurd (let wrong : false ≡ true = mine in cc)
 
-    pub ends_due : (status : Status) → Ends at between failed unwritten status (λ k. behind_lines k bytes store) (run store bytes) text → IsDue status store bytes taken rest text unwritten at between
-    ends_due status (own e) = own_due status e.own (record { ends = e.stop; said = e.said; left = e.left })
-    ends_due status (cut e) =
-        let part : PlaysPart store bytes text at = record { first = e.first; lines = e.lines; part = e.part; left = e.left } in
-        ⊎_elim (λ memory. subst (λ (s : Status). IsDue s store bytes taken rest text unwritten at between) (sym memory) part)
-        (λ w. subst (λ (s : Status). IsDue s store bytes taken rest text unwritten at between) (sym w.0) part) e.cause
-    ends_due status (broken e) =
-        subst (λ (s : Status). IsDue s store bytes taken rest text unwritten at between) (sym e.fault) (record { lines = e.lines; part = e.part; exact = e.exact; left = e.left })
+  pub ends_due : IsAnsweredBefore play_line store bytes taken rest text → (status : Status)
+      → Ends at between failed unwritten (λ k. AreRead k taken rest) status (λ k. behind_lines play_line k bytes store) (run play_line store bytes) text → IsDue play_line store bytes taken rest text status unwritten at between
+  ends_due answered status (own e) = own_due status e.own (record { ends = e.stop; said = e.said; left = e.left })
+  ends_due answered status (wanted e) =
+      subst (λ (s : Status). IsDue play_line store bytes taken rest text s unwritten at between) (sym e.memory) (record {
+        lines = e.lines;
+        read = e.read;
+        goes_on = e.goes_on;
+        said = e.said;
+        left = ⊎_elim (λ here. inl here) (λ next. inr (record { read = next.read; left = next.left })) e.left;
+      })
+  ends_due answered status (unsaid e) =
+      subst (λ (s : Status). IsDue play_line store bytes taken rest text s unwritten at between) (sym e.fault)
+      (record { lines = e.lines; read = e.read; said = record { before = answered; part = e.part }; left = e.left })
+  ends_due answered status (broken e) =
+      subst (λ (s : Status). IsDue play_line store bytes taken rest text s unwritten at between) (sym e.fault)
+      (record { lines = e.lines; read = e.read; said = ⊎_elim (λ said. inl said) (λ part. inr (part.0, record { before = answered; part = part.1 })) e.said; left = e.left })
 
 -- what rose at each end
 module _ (in_before in_after out_before out_after before after : ℕ) where
@@ -141,44 +167,45 @@ module _ (in_before in_after out_before out_after before after : ℕ) where
   own_caused (Damaged disk at harm) mine = absurd (let wrong : false ≡ true = mine in cc)
   own_caused Memory mine = tt
 
-  pub ends_caused : (at : Store → Type 0) (between : Store → Store → Type 0) (unwritten : Type 0) (status : Status) (steps : ℕ → Played) (whole : Played) (text : List ℕ)
-      → (unwritten → Rose out_before out_after) → Ends at between (HasRisen before after) unwritten status steps whole text → Caused in_before in_after out_before out_after before after status
-  ends_caused at between unwritten status steps whole text rose (own e) = own_caused status e.own
-  ends_caused at between unwritten status steps whole text rose (cut e) =
-      ⊎_elim (λ memory. subst (λ (s : Status). Caused in_before in_after out_before out_after before after s) (sym memory) tt)
-      (λ w. subst (λ (s : Status). Caused in_before in_after out_before out_after before after s) (sym w.0) (rose w.1)) e.cause
-  ends_caused at between unwritten status steps whole text rose (broken e) =
+  pub ends_caused : (at : Store → Type 0) (between : Store → Store → Type 0) (unwritten : Type 0) (is_read : ℕ → Type 0) (status : Status) (steps : ℕ → Played Store) (whole : Played Store) (text : List ℕ)
+      → (unwritten → Rose out_before out_after) → Ends at between (HasRisen before after) unwritten is_read status steps whole text → Caused in_before in_after out_before out_after before after status
+  ends_caused at between unwritten is_read status steps whole text rose (own e) = own_caused status e.own
+  ends_caused at between unwritten is_read status steps whole text rose (wanted e) =
+      subst (λ (s : Status). Caused in_before in_after out_before out_after before after s) (sym e.memory) tt
+  ends_caused at between unwritten is_read status steps whole text rose (unsaid e) =
+      subst (λ (s : Status). Caused in_before in_after out_before out_after before after s) (sym e.fault) (rose e.because)
+  ends_caused at between unwritten is_read status steps whole text rose (broken e) =
       subst (λ (s : Status). Caused in_before in_after out_before out_after before after s) (sym e.fault) (refl, e.risen)
 
 -- a session that has taken nothing plays the whole script
 module _ {D : Type 0} {d : Ghosts D} (session : Session D d) (fresh : IsFresh session.player.kept session) where
-  abbrev over : PlayerState D → ℕ → List ℕ → (ℕ → List ℕ → Store → Played) → Played
+  abbrev over : PlayerState D → ℕ → List ℕ → (ℕ → List ℕ → Store → Played Store) → Played Store
   over player count pending rest = with_front player.text (rest (count + 1) pending (store_of player.kept))
 
-  from_start : (rest : ℕ → List ℕ → Store → Played) → over session.player session.count session.pending.items rest ≡ rest 1 [] (store_of session.player.kept)
+  from_start : (rest : ℕ → List ℕ → Store → Played Store) → over session.player session.count session.pending.items rest ≡ rest 1 [] (store_of session.player.kept)
   from_start rest =
       ap (λ (p : PlayerState D). over p session.count session.pending.items rest) fresh.player
       ∙ ap (λ (n : ℕ). over (record { kept = session.player.kept; text = [] }) n session.pending.items rest) fresh.count
       ∙ ap (λ (b : List ℕ). over (record { kept = session.player.kept; text = [] }) 0 b rest) fresh.pending
 
-  pub fresh_run : (ended : Bool) (bytes : List ℕ) → resumed ended bytes session ≡ play ended 1 (lines_of bytes) (store_of session.player.kept)
-  fresh_run ended bytes = from_start (λ n pending st. play ended n (lines_of (pending ++ bytes)) st)
+  pub fresh_run : (ended : Bool) (bytes : List ℕ) → resumed ended bytes session ≡ play play_line ended 1 (lines_of bytes) (store_of session.player.kept)
+  fresh_run ended bytes = from_start (λ n pending st. play play_line ended n (lines_of (pending ++ bytes)) st)
 
-  pub fresh_lines : (k : ℕ) (bytes : List ℕ) → resumed_by k bytes session ≡ behind_lines k bytes (store_of session.player.kept)
-  fresh_lines k bytes = from_start (λ n pending st. play true n (take k (lines_of (pending ++ bytes))) st)
+  pub fresh_lines : (k : ℕ) (bytes : List ℕ) → resumed_by k bytes session ≡ behind_lines play_line k bytes (store_of session.player.kept)
+  fresh_lines k bytes = from_start (λ n pending st. play play_line true n (take k (lines_of (pending ++ bytes))) st)
 
-pub record SoFar {D : Type 0} {d : Ghosts D} (moment : D → ℕ) (left_since : D → ℕ → List ℕ → Type 0) (count : D → ℕ) (start session : Session D d) (left0 left before after : Option (List ℕ)) : Type 0 where
+pub record SoFar {D : Type 0} {d : Ghosts D} (start session : Session D d) (left0 left before after : Option (List ℕ)) : Type 0 where
   pub taken : List ℕ
   pub text : List ℕ
   pub took : Takes taken left0 left
   pub written : Writes text before after
   pub silent : session.player.text ≡ []
   pub goes : Goes taken text start session
-  pub moves : Moves moment left_since count taken start session.player.kept
+  pub moves : Moves taken start session.player.kept
 
-module _ {D : Type 0} {d : Ghosts D} (moment : D → ℕ) (left_since : D → ℕ → List ℕ → Type 0) (may_leave : D → List ℕ → Type 0) (count : D → ℕ) (start : Session D d)
+module _ {D : Type 0} {d : Ghosts D} (start : Session D d)
     (alive : start.player.kept.log.shut ≡ false) (fresh : IsFresh start.player.kept start) (left0 before : Option (List ℕ)) where
-  pub started : SoFar moment left_since count start start left0 left0 before before
+  pub started : SoFar start start left0 left0 before before
   started = record {
     taken = [];
     text = [];
@@ -186,23 +213,23 @@ module _ {D : Type 0} {d : Ghosts D} (moment : D → ℕ) (left_since : D → �
     written = writes_none before;
     silent = ap (λ (p : PlayerState D). p.text) fresh.player;
     goes = goes_none start alive;
-    moves = moves_none moment left_since count [] start start.player.kept refl;
+    moves = moves_none [] start start.player.kept refl;
   }
 
   -- moments of the whole script
-  moments_of : (bytes taken rest : List ℕ) (new : Kept D) → bytes ≡ taken ++ rest → Moves moment left_since count taken start new → IsTold start.player.kept
-      → Adds moment left_since start.player.kept.log.disk new.log.disk (IsBehind (λ k. behind_lines k bytes (store_of start.player.kept)))
+  moments_of : (bytes taken rest : List ℕ) (new : Kept D) → bytes ≡ taken ++ rest → Moves taken start new → IsTold start.player.kept
+      → Adds d start.player.kept.log.disk new.log.disk (IsBehind (λ k. behind_lines play_line k bytes (store_of start.player.kept)))
   moments_of bytes taken rest new split moves told =
-      adds_weaker moment left_since start.player.kept.log.disk new.log.disk _ (IsBehind (λ k. behind_lines k bytes (store_of start.player.kept))) (moves.moments told rest)
+      adds_weaker d.moment d.left_since start.player.kept.log.disk new.log.disk _ (IsBehind (λ k. behind_lines play_line k bytes (store_of start.player.kept))) (moves.moments told rest)
       (λ image was. record {
         lines = was.lines;
         stands = subst (λ (s : Store). IsImage s image)
-            (ap (λ (p : Played). p.store) (ap (λ (l : List ℕ). resumed_by was.lines l start) (sym split) ∙ fresh_lines start fresh was.lines bytes)) was.stands;
+            (ap (λ (p : Played Store). p.store) (ap (λ (l : List ℕ). resumed_by was.lines l start) (sym split) ∙ fresh_lines start fresh was.lines bytes)) was.stands;
       })
 
-  module _ (session : Session D d) (left after : Option (List ℕ)) (far : SoFar moment left_since count start session left0 left before after) where
+  module _ (session : Session D d) (left after : Option (List ℕ)) (far : SoFar start session left0 left before after) where
     pub next : (piece : List ℕ) (left' after' : Option (List ℕ)) (session' : Session D d) → Takes piece left left' → PlaysPiece piece session session' after after'
-        → Moves moment left_since count piece session session'.player.kept → SoFar moment left_since count start session' left0 left' before after'
+        → Moves piece session session'.player.kept → SoFar start session' left0 left' before after'
     next piece left' after' session' took played moved = record {
       taken = far.taken ++ piece;
       text = far.text ++ played.text;
@@ -210,22 +237,32 @@ module _ {D : Type 0} {d : Ghosts D} (moment : D → ℕ) (left_since : D → �
       written = writes_then far.text played.text before after after' far.written played.written;
       silent = played.silent;
       goes = goes_then far.taken piece far.text played.text start session session' far.goes played.goes;
-      moves = moves_then moment left_since count far.taken piece far.text start session session'.player.kept far.goes far.moves moved;
+      moves = moves_then far.taken piece far.text start session session'.player.kept far.goes far.moves moved;
     }
 
-    pub moments_so_far : (piece : List ℕ) (left' : Option (List ℕ)) (new : Kept D) → Takes piece left left' → Moves moment left_since count piece session new
+    pub moments_so_far : (piece : List ℕ) (left' : Option (List ℕ)) (new : Kept D) → Takes piece left left' → Moves piece session new
         → (bytes : List ℕ) → left0 ≡ Some bytes → IsTold start.player.kept
-        → Adds moment left_since start.player.kept.log.disk new.log.disk (IsBehind (λ k. behind_lines k bytes (store_of start.player.kept)))
+        → Adds d start.player.kept.log.disk new.log.disk (IsBehind (λ k. behind_lines play_line k bytes (store_of start.player.kept)))
     moments_so_far piece left' new took moved bytes told disk_told =
         let over = left_of bytes (far.taken ++ piece) left0 left' told (takes_then far.taken piece left0 left left' far.took took) in
-        moments_of bytes (far.taken ++ piece) over.rest new over.split (moves_then moment left_since count far.taken piece far.text start session new far.goes far.moves moved) disk_told
+        moments_of bytes (far.taken ++ piece) over.rest new over.split (moves_then far.taken piece far.text start session new far.goes far.moves moved) disk_told
+
+    -- what was read so far gives what was written so far
+    so_far : run_so_far play_line (store_of start.player.kept) far.taken ≡ with_front far.text (with_front [] (passed (store_of session.player.kept)))
+    so_far =
+        let quiet : resumed false [] session ≡ with_front [] (passed (store_of session.player.kept)) =
+        ap (λ (p : Played Store). with_front session.player.text p)
+        (play-begun (session.count + 1) session.pending.items (store_of session.player.kept) session.unended (λ some. omega (arith, session.begun (grind (arith, common_steps)))) (grind (arith, common_steps)))
+        ∙ ap (λ (t : List ℕ). with_front t (passed (store_of session.player.kept))) far.silent in
+        sym (fresh_run start fresh false far.taken) ∙ ap (λ (t : List ℕ). resumed false t start) (sym (append-nil far.taken)) ∙ far.goes.whole false [] ∙ ap (with_front far.text) quiet
 
     module _ (unwritten unwritten' : Type 0) (to_unwritten : unwritten → unwritten') (new : Kept D) where
       -- a piece ended it
-      pub ended_in : (status : Status) (piece : List ℕ) (left' after' : Option (List ℕ)) → Takes piece left left' → (text : List ℕ) → Writes text after after'
-          → ((rest : List ℕ) → left' ≡ Some rest → Stops may_leave count unwritten status (piece ++ rest) text session new) → (bytes : List ℕ) → left0 ≡ Some bytes
-          → Drives status (store_of start.player.kept) bytes left' before after' unwritten' (IsAt new) (λ a b. IsTold start.player.kept → LeavesEither may_leave new a b)
-      ended_in status piece left' after' took text wrote stops bytes told =
+      pub ended_in : (status : Status) (piece : List ℕ) (left' after' : Option (List ℕ)) → length piece ≤ most_piece → Takes piece left left' → (text : List ℕ) → Writes text after after'
+          → (is_read : List ℕ → ℕ → Type 0) → ((rest : List ℕ) → left' ≡ Some rest → (k : ℕ) → is_read rest k → AreRead (k + far.goes.lines) (far.taken ++ piece) rest)
+          → ((rest : List ℕ) → left' ≡ Some rest → Stops unwritten (is_read rest) status (piece ++ rest) text session new) → (bytes : List ℕ) → left0 ≡ Some bytes
+          → Drives play_line status (store_of start.player.kept) bytes left' before after' unwritten' (IsAt new) (λ a b. IsTold start.player.kept → LeavesEither d new a b)
+      ended_in status piece left' after' short took text wrote is_read to_read stops bytes told =
           let over = left_of bytes (far.taken ++ piece) left0 left' told (takes_then far.taken piece left0 left left' far.took took) in
           record {
             taken = far.taken ++ piece;
@@ -234,39 +271,50 @@ module _ {D : Type 0} {d : Ghosts D} (moment : D → ℕ) (left_since : D → �
             split = over.split;
             left_over = over.left_over;
             written = writes_then far.text text before after after' far.written wrote;
-            due = ends_due (IsAt new) (λ a b. IsTold start.player.kept → LeavesEither may_leave new a b) (HasRisen (count start.player.kept.log.disk) (count new.log.disk)) unwritten'
-                (store_of start.player.kept) bytes (far.taken ++ piece) over.rest (far.text ++ text) status
-                (ends_then (IsAt new) (IsAt new) (λ a b. IsTold start.player.kept → LeavesEither may_leave new a b) (λ a b. IsTold start.player.kept → LeavesEither may_leave new a b)
-                (HasRisen (count start.player.kept.log.disk) (count new.log.disk)) (HasRisen (count start.player.kept.log.disk) (count new.log.disk)) unwritten' unwritten'
-                (λ st is. is) (λ a b is. is) (λ n is. is) (λ is. is)
-                status (λ k. resumed_by k (far.taken ++ (piece ++ over.rest)) start) (λ k. behind_lines k bytes (store_of start.player.kept))
-                (resumed true (far.taken ++ (piece ++ over.rest)) start) (run (store_of start.player.kept) bytes) [] (far.text ++ text)
-                0 (λ k. same_lines (k + 0) k (omega arith) bytes over.rest over.split) (same_run bytes over.rest over.split)
-                (stops_then moment left_since may_leave count unwritten unwritten' to_unwritten status far.taken (piece ++ over.rest) far.text text start session new far.goes far.moves (stops over.rest over.left_over)));
+            due = ends_due (IsAt new) (λ a b. IsTold start.player.kept → LeavesEither d new a b) (HasRisen (d.count start.player.kept.log.disk) (d.count new.log.disk)) unwritten'
+                (store_of start.player.kept) bytes (far.taken ++ piece) over.rest (far.text ++ text) (answered text) status
+                (ends_then (IsAt new) (λ a b. IsTold start.player.kept → LeavesEither d new a b) (λ a b. IsTold start.player.kept → LeavesEither d new a b)
+                (HasRisen (d.count start.player.kept.log.disk) (d.count new.log.disk)) (HasRisen (d.count start.player.kept.log.disk) (d.count new.log.disk)) unwritten' unwritten'
+                (λ k. AreRead k (far.taken ++ piece) over.rest) (λ k. AreRead k (far.taken ++ piece) over.rest)
+                (λ a b is. is) (λ n is. is) (λ is. is)
+                status (λ k. resumed_by k (far.taken ++ (piece ++ over.rest)) start) (λ k. behind_lines play_line k bytes (store_of start.player.kept))
+                (resumed true (far.taken ++ (piece ++ over.rest)) start) (run play_line (store_of start.player.kept) bytes) [] (far.text ++ text)
+                0 (λ k read. subst (λ (n : ℕ). AreRead n (far.taken ++ piece) over.rest) (let same : k ≡ k + 0 = omega arith in same) read)
+                (λ k. same_lines (k + 0) k (omega arith) bytes over.rest over.split) (same_run bytes over.rest over.split)
+                (stops_then unwritten unwritten' to_unwritten (is_read over.rest) (λ k. AreRead k (far.taken ++ piece) over.rest) status far.taken (piece ++ over.rest) far.text text start session new far.goes (to_read over.rest over.left_over) far.moves (stops over.rest over.left_over)));
           }
         where
+          answered : {bytes rest : List ℕ} (text : List ℕ) → IsAnsweredBefore play_line (store_of start.player.kept) bytes (far.taken ++ piece) rest (far.text ++ text)
+          answered text = record {
+            before = far.taken;
+            piece = piece;
+            split = refl;
+            short = short;
+            answered = record { rest = text; split = ap (λ (t : List ℕ). t ++ text) (sym (ap (λ (p : Played Store). p.text) so_far ∙ append-nil far.text)) };
+          }
+
           again : (bytes rest : List ℕ) → bytes ≡ (far.taken ++ piece) ++ rest → bytes ≡ far.taken ++ (piece ++ rest)
           again bytes rest split = split ∙ append_assoc far.taken piece rest
 
           same_lines : (m k : ℕ) → m ≡ k → (bytes rest : List ℕ) → bytes ≡ (far.taken ++ piece) ++ rest
-              → behind_lines m bytes (store_of start.player.kept) ≡ with_front [] (resumed_by k (far.taken ++ (piece ++ rest)) start)
+              → behind_lines play_line m bytes (store_of start.player.kept) ≡ with_front [] (resumed_by k (far.taken ++ (piece ++ rest)) start)
           same_lines m k is bytes rest split =
-              ap (λ (n : ℕ). behind_lines n bytes (store_of start.player.kept)) is ∙ sym (fresh_lines start fresh k bytes) ∙ ap (λ (l : List ℕ). resumed_by k l start) (again bytes rest split)
+              ap (λ (n : ℕ). behind_lines play_line n bytes (store_of start.player.kept)) is ∙ sym (fresh_lines start fresh k bytes) ∙ ap (λ (l : List ℕ). resumed_by k l start) (again bytes rest split)
 
-          same_run : (bytes rest : List ℕ) → bytes ≡ (far.taken ++ piece) ++ rest → run (store_of start.player.kept) bytes ≡ with_front [] (resumed true (far.taken ++ (piece ++ rest)) start)
+          same_run : (bytes rest : List ℕ) → bytes ≡ (far.taken ++ piece) ++ rest → run play_line (store_of start.player.kept) bytes ≡ with_front [] (resumed true (far.taken ++ (piece ++ rest)) start)
           same_run bytes rest split = sym (fresh_run start fresh true bytes) ∙ ap (λ (l : List ℕ). resumed true l start) (again bytes rest split)
 
     -- the end of the script was played
     module _ (unwritten' : Type 0) (new : Kept D) where
       pub done_at_end : (piece : List ℕ) (left' after' : Option (List ℕ)) → Takes piece left left' → piece ≡ [] → ((bytes : List ℕ) → left ≡ Some bytes → bytes ≡ [])
           → (status : Status) → EndsDone status session new after after' → (bytes : List ℕ) → left0 ≡ Some bytes
-          → Drives status (store_of start.player.kept) bytes left' before after' unwritten' (IsAt new) (λ a b. IsTold start.player.kept → LeavesEither may_leave new a b)
+          → Drives play_line status (store_of start.player.kept) bytes left' before after' unwritten' (IsAt new) (λ a b. IsTold start.player.kept → LeavesEither d new a b)
       done_at_end piece left' after' took empty end status did bytes told =
           let here = left_of bytes far.taken left0 left told far.took in
           let none : here.rest ≡ [] = end here.rest here.left_over in
           let whole : bytes ≡ far.taken ++ [] = here.split ∙ ap (λ (r : List ℕ). far.taken ++ r) none in
           let over = left_of bytes (far.taken ++ piece) left0 left' told (takes_then far.taken piece left0 left left' far.took took) in
-          let all : run (store_of start.player.kept) bytes ≡ with_front far.text (resumed true [] session) =
+          let all : run play_line (store_of start.player.kept) bytes ≡ with_front far.text (resumed true [] session) =
           sym (fresh_run start fresh true bytes) ∙ ap (λ (l : List ℕ). resumed true l start) whole ∙ far.goes.whole true [] in
           record {
             taken = far.taken ++ piece;
@@ -275,12 +323,12 @@ module _ {D : Type 0} {d : Ghosts D} (moment : D → ℕ) (left_since : D → �
             split = over.split;
             left_over = over.left_over;
             written = writes_then far.text did.text before after after' far.written did.written;
-            due = subst (λ (s : Status). IsDue s (store_of start.player.kept) bytes (far.taken ++ piece) over.rest (far.text ++ did.text) unwritten' (IsAt new) (λ a b. IsTold start.player.kept → LeavesEither may_leave new a b)) (sym did.done) (
+            due = subst (λ (s : Status). IsDue play_line (store_of start.player.kept) bytes (far.taken ++ piece) over.rest (far.text ++ did.text) s unwritten' (IsAt new) (λ a b. IsTold start.player.kept → LeavesEither d new a b)) (sym did.done) (
               nothing_left here.rest piece over.rest left left' here.left_over took over.left_over none,
               record {
-                ends = ap (λ (p : Played). p.stop) all ∙ did.finishes.stop;
-                said = ap (λ (p : Played). p.text) all ∙ ap (λ (t : List ℕ). far.text ++ t) did.finishes.said;
-                left = subst (IsAt new) (sym (ap (λ (p : Played). p.store) all)) did.finishes.at;
+                ends = ap (λ (p : Played Store). p.stop) all ∙ did.finishes.stop;
+                said = ap (λ (p : Played Store). p.text) all ∙ ap (λ (t : List ℕ). far.text ++ t) did.finishes.said;
+                left = subst (IsAt new) (sym (ap (λ (p : Played Store). p.store) all)) did.finishes.at;
               },
             );
           }
@@ -297,15 +345,9 @@ module _ {D : Type 0} {d : Ghosts D} (moment : D → ℕ) (left_since : D → �
 
       -- a read that failed took nothing
       pub read_failed : (left' : Option (List ℕ)) → left' ≡ left → new ≡ session.player.kept → (bytes : List ℕ) → left0 ≡ Some bytes
-          → Drives ReadFault (store_of start.player.kept) bytes left' before after unwritten' (IsAt new) (λ a b. IsTold start.player.kept → LeavesEither may_leave new a b)
+          → Drives play_line ReadFault (store_of start.player.kept) bytes left' before after unwritten' (IsAt new) (λ a b. IsTold start.player.kept → LeavesEither d new a b)
       read_failed left' same kept bytes told =
           let here = left_of bytes far.taken left0 left told far.took in
-          let quiet : resumed false [] session ≡ with_front [] (passed (store_of session.player.kept)) =
-          ap (λ (p : Played). with_front session.player.text p)
-          (play-begun (session.count + 1) session.pending.items (store_of session.player.kept) session.unended (λ some. omega (arith, session.begun (grind (arith, common_steps)))) (grind (arith, common_steps)))
-          ∙ ap (λ (t : List ℕ). with_front t (passed (store_of session.player.kept))) far.silent in
-          let all : run_so_far (store_of start.player.kept) far.taken ≡ with_front far.text (with_front [] (passed (store_of session.player.kept))) =
-          sym (fresh_run start fresh false far.taken) ∙ ap (λ (t : List ℕ). resumed false t start) (sym (append-nil far.taken)) ∙ far.goes.whole false [] ∙ ap (with_front far.text) quiet in
           record {
             taken = far.taken;
             rest = here.rest;
@@ -314,10 +356,10 @@ module _ {D : Type 0} {d : Ghosts D} (moment : D → ℕ) (left_since : D → �
             left_over = same ∙ here.left_over;
             written = far.written;
             due = record {
-              ends = ap (λ (p : Played). p.stop) all;
-              said = ap (λ (p : Played). p.text) all ∙ append-nil far.text;
-              left = subst (λ (k : Kept D). IsAt k (run_so_far (store_of start.player.kept) far.taken).store) (sym kept)
-                  (record { alive = far.goes.alive; store_is = sym (ap (λ (p : Played). p.store) all) });
+              ends = ap (λ (p : Played Store). p.stop) so_far;
+              said = ap (λ (p : Played Store). p.text) so_far ∙ append-nil far.text;
+              left = subst (λ (k : Kept D). IsAt k (run_so_far play_line (store_of start.player.kept) far.taken).store) (sym kept)
+                  (record { alive = far.goes.alive; store_is = sym (ap (λ (p : Played Store). p.store) so_far) });
             };
           }
 
@@ -334,9 +376,9 @@ caused_wider a' a b b' c' c e e' f' f n one two three four five (TooLong count) 
 caused_wider a' a b b' c' c e e' f' f n one two three four five (Full log length frame) fine = tt
 caused_wider a' a b b' c' c e e' f' f n one two three four five Memory fine = tt
 
-module _ {D : Type 0} {d : Ghosts D} (moment : D → ℕ) (left_since : D → ℕ → List ℕ → Type 0) (may_leave : D → List ℕ → Type 0) (count : D → ℕ) (start : Session D d)
+module _ {D : Type 0} {d : Ghosts D} (start : Session D d)
     (alive : start.player.kept.log.shut ≡ false) (fresh : IsFresh start.player.kept start) (left0 before : Option (List ℕ))
-    (session : Session D d) (left after : Option (List ℕ)) (far : SoFar moment left_since count start session left0 left before after) where
+    (session : Session D d) (left after : Option (List ℕ)) (far : SoFar start session left0 left before after) where
   back_nil : (a b : List ℕ) → a ++ b ≡ [] → b ≡ []
   back_nil [] b is = is
   back_nil (x ∷ xs) b is = cc
@@ -345,40 +387,58 @@ module _ {D : Type 0} {d : Ghosts D} (moment : D → ℕ) (left_since : D → �
   no_rest : (piece rest : List ℕ) (left' : Option (List ℕ)) → Takes piece left left' → ((bytes : List ℕ) → left ≡ Some bytes → bytes ≡ []) → left' ≡ Some rest → rest ≡ []
   no_rest piece rest left' took end is = back_nil piece rest (end (piece ++ rest) (took ∙ ap (option_map (λ r. piece ++ r)) is))
 
+  -- a piece ended it
+  pub piece_in : (unwritten unwritten' : Type 0) → (unwritten → unwritten') → (new : Kept D) (status : Status) (piece : List ℕ) (left' after' : Option (List ℕ)) → length piece ≤ most_piece → Takes piece left left'
+      → EndsInPiece unwritten status piece session new after after' → (bytes : List ℕ) → left0 ≡ Some bytes
+      → Drives play_line status (store_of start.player.kept) bytes left' before after' unwritten' (IsAt new) (λ a b. IsTold start.player.kept → LeavesEither d new a b)
+  piece_in unwritten unwritten' to new status piece left' after' short took did bytes told =
+      ended_in start alive fresh left0 before session left after far unwritten unwritten' to new status piece left' after' short took did.text did.written
+      (λ rest k. k ≤ line_ends piece) (λ rest is k few. inl (omega (arith, few, far.goes.ends, line_ends-append far.taken piece))) (λ rest is. did.stops rest) bytes told
+
   -- the end of the script, either way
   pub last_in : (unwritten unwritten' : Type 0) → (unwritten → unwritten') → (new : Kept D) (piece : List ℕ) (left' after' : Option (List ℕ)) → Takes piece left left' → piece ≡ []
-      → ((bytes : List ℕ) → left ≡ Some bytes → bytes ≡ []) → (status : Status) → EndsAtEnd may_leave count unwritten status session new after after' → (bytes : List ℕ) → left0 ≡ Some bytes
-      → Drives status (store_of start.player.kept) bytes left' before after' unwritten' (IsAt new) (λ a b. IsTold start.player.kept → LeavesEither may_leave new a b)
+      → ((bytes : List ℕ) → left ≡ Some bytes → bytes ≡ []) → (status : Status) → EndsDone status session new after after' ⊎ EndsLast unwritten status session new after after' → (bytes : List ℕ) → left0 ≡ Some bytes
+      → Drives play_line status (store_of start.player.kept) bytes left' before after' unwritten' (IsAt new) (λ a b. IsTold start.player.kept → LeavesEither d new a b)
   last_in unwritten unwritten' to new piece left' after' took empty end status (inl did) bytes told =
-      done_at_end moment left_since may_leave count start alive fresh left0 before session left after far unwritten' new piece left' after' took empty end status did bytes told
+      done_at_end start alive fresh left0 before session left after far unwritten' new piece left' after' took empty end status did bytes told
   last_in unwritten unwritten' to new piece left' after' took empty end status (inr did) bytes told =
-      ended_in moment left_since may_leave count start alive fresh left0 before session left after far unwritten unwritten' to new status piece left' after' took did.text did.written
-      (λ rest is. subst (λ (b : List ℕ). Stops may_leave count unwritten status b did.text session new) (ap (λ (r : List ℕ). [] ++ r) (sym (no_rest piece rest left' took end is)) ∙ ap (λ (p : List ℕ). p ++ rest) (sym empty)) did.stops) bytes told
+      ended_in start alive fresh left0 before session left after far unwritten unwritten' to new status piece left' after'
+      (subst (λ (p : List ℕ). length p ≤ most_piece) (sym empty) (omega arith)) took did.text did.written
+      (λ rest k. Unit {0}) (λ rest is k read. inr (no_rest piece rest left' took end is))
+      (λ rest is. subst (λ (b : List ℕ). Stops unwritten (λ _. Unit {0}) status b did.text session new)
+      (ap (λ (r : List ℕ). [] ++ r) (sym (no_rest piece rest left' took end is)) ∙ ap (λ (p : List ℕ). p ++ rest) (sym empty)) did.stops) bytes told
 
   pub last_caused : (in_before in_after out_before out_after : ℕ) (unwritten : Type 0) → (unwritten → Rose out_before out_after) → (new : Kept D) (status : Status) (after' : Option (List ℕ))
-      → EndsAtEnd may_leave count unwritten status session new after after' → Caused in_before in_after out_before out_after (count session.player.kept.log.disk) (count new.log.disk) status
+      → EndsDone status session new after after' ⊎ EndsLast unwritten status session new after after'
+      → Caused in_before in_after out_before out_after (d.count session.player.kept.log.disk) (d.count new.log.disk) status
   last_caused in_before in_after out_before out_after unwritten rose new status after' (inl did) =
-      subst (λ (s : Status). Caused in_before in_after out_before out_after (count session.player.kept.log.disk) (count new.log.disk) s) (sym did.done) tt
+      subst (λ (s : Status). Caused in_before in_after out_before out_after (d.count session.player.kept.log.disk) (d.count new.log.disk) s) (sym did.done) tt
   last_caused in_before in_after out_before out_after unwritten rose new status after' (inr did) =
-      ends_caused in_before in_after out_before out_after (count session.player.kept.log.disk) (count new.log.disk) _ _ unwritten status _ _ did.text rose did.stops
+      ends_caused in_before in_after out_before out_after (d.count session.player.kept.log.disk) (d.count new.log.disk) _ _ unwritten (λ _. Unit {0}) status _ _ did.text rose did.stops
 
   pub piece_caused : (in_before in_after out_before out_after : ℕ) (unwritten : Type 0) → (unwritten → Rose out_before out_after) → (new : Kept D) (status : Status) (piece : List ℕ) (after' : Option (List ℕ))
-      → EndsInPiece may_leave count unwritten status piece session new after after' → Caused in_before in_after out_before out_after (count session.player.kept.log.disk) (count new.log.disk) status
+      → EndsInPiece unwritten status piece session new after after' → Caused in_before in_after out_before out_after (d.count session.player.kept.log.disk) (d.count new.log.disk) status
   piece_caused in_before in_after out_before out_after unwritten rose new status piece after' did =
-      ends_caused in_before in_after out_before out_after (count session.player.kept.log.disk) (count new.log.disk) _ _ unwritten status _ _ did.text rose (did.stops [])
+      ends_caused in_before in_after out_before out_after (d.count session.player.kept.log.disk) (d.count new.log.disk) _ _ unwritten (λ k. k ≤ line_ends piece) status _ _ did.text rose (did.stops [])
 
   -- what a stop left until the end
-  pub moments_last : (new : Kept D) → ((bytes : List ℕ) → left ≡ Some bytes → bytes ≡ []) → MovesLast moment left_since count session new → (bytes : List ℕ) → left0 ≡ Some bytes → IsTold start.player.kept
-      → Adds moment left_since start.player.kept.log.disk new.log.disk (IsBehind (λ k. behind_lines k bytes (store_of start.player.kept)))
+  pub moments_last : (new : Kept D) → ((bytes : List ℕ) → left ≡ Some bytes → bytes ≡ []) → MovesLast session new → (bytes : List ℕ) → left0 ≡ Some bytes → IsTold start.player.kept
+      → Adds d start.player.kept.log.disk new.log.disk (IsBehind (λ k. behind_lines play_line k bytes (store_of start.player.kept)))
   moments_last new end moved bytes told disk_told =
       let here = left_of bytes far.taken left0 left told far.took in
       let whole : bytes ≡ far.taken ++ [] = here.split ∙ ap (λ (r : List ℕ). far.taken ++ r) (end here.rest here.left_over) in
-      adds_then moment left_since start.player.kept.log.disk session.player.kept.log.disk new.log.disk (IsBehind (λ k. behind_lines k bytes (store_of start.player.kept)))
-      (adds_weaker moment left_since start.player.kept.log.disk session.player.kept.log.disk _ (IsBehind (λ k. behind_lines k bytes (store_of start.player.kept))) (far.moves.moments disk_told [])
-      (λ image was. record { lines = was.lines; stands = subst (λ (s : Store). IsImage s image) (ap (λ (p : Played). p.store) (ap (λ (l : List ℕ). resumed_by was.lines l start) (sym whole) ∙ fresh_lines start fresh was.lines bytes)) was.stands }))
-      (adds_weaker moment left_since session.player.kept.log.disk new.log.disk _ (IsBehind (λ k. behind_lines k bytes (store_of start.player.kept))) (moved.moments (far.moves.told ∙ disk_told))
+      adds_then d.moment d.left_since start.player.kept.log.disk session.player.kept.log.disk new.log.disk (IsBehind (λ k. behind_lines play_line k bytes (store_of start.player.kept)))
+      (adds_weaker d.moment d.left_since start.player.kept.log.disk session.player.kept.log.disk _ (IsBehind (λ k. behind_lines play_line k bytes (store_of start.player.kept))) (far.moves.moments disk_told [])
+      (λ image was. record { lines = was.lines; stands = subst (λ (s : Store). IsImage s image) (ap (λ (p : Played Store). p.store) (ap (λ (l : List ℕ). resumed_by was.lines l start) (sym whole) ∙ fresh_lines start fresh was.lines bytes)) was.stands }))
+      (adds_weaker d.moment d.left_since session.player.kept.log.disk new.log.disk _ (IsBehind (λ k. behind_lines play_line k bytes (store_of start.player.kept))) (moved.moments (far.moves.told ∙ disk_told))
       (λ image was. record {
         lines = was.lines + far.goes.lines;
         stands = subst (λ (s : Store). IsImage s image)
-            (sym (ap (λ (p : Played). p.store) (sym (fresh_lines start fresh (was.lines + far.goes.lines) bytes) ∙ ap (λ (l : List ℕ). resumed_by (was.lines + far.goes.lines) l start) whole ∙ far.goes.steps was.lines []))) was.stands;
+            (sym (ap (λ (p : Played Store). p.store) (sym (fresh_lines start fresh (was.lines + far.goes.lines) bytes) ∙ ap (λ (l : List ℕ). resumed_by (was.lines + far.goes.lines) l start) whole ∙ far.goes.steps was.lines []))) was.stands;
       }))
+
+-- of an empty input nothing is taken
+pub takes_nothing : (n : ℕ) (xs : List ℕ) (before after : Option (List ℕ)) → before ≡ Some [] → Takes (take n xs) before after → 0 < n → n ≤ length xs → ⊥
+takes_nothing n xs before after told took some fits =
+    let over = left_of [] (take n xs) before after told took in
+    omega (arith, some, fits, ap length over.split, length-append (take n xs) over.rest, length-take n xs)

@@ -1,5 +1,5 @@
 -- A step of a drive: what was played, and whether its answers were written.
-use Rattle.std.proofs.Common.{◌≡◌, ◌⊎◌, ⊎_elim, inl, inr, ℕ, ◌+◌, ◌-◌, ◌*◌, Vec, vec_len, List, [], ◌++◌, length, take, true, Option, Result, Ok, Err, OnOk, OnErr, IfErr, refl, sym, ap, subst, ◌∙◌, arith}
+use Rattle.std.proofs.Common.{◌≡◌, ◌⊎◌, ⊎_elim, inl, inr, ℕ, ◌≤◌, ◌+◌, ◌-◌, ◌*◌, Vec, vec_len, List, [], ◌++◌, length, take, true, Option, Result, Ok, Err, OnOk, OnErr, IfErr, refl, sym, ap, subst, ◌∙◌, arith}
 use Rattle.std.proofs.lemmas.List.{append-nil}
 use Rattle.std.specs.declared.alloc.Global.{Global}
 use Rattle.cw_io.specs.Written.{IsWrittenInPart}
@@ -8,12 +8,14 @@ use Rattle.cw_disk.specs.declared.device.Disk.{Ghosts}
 use Rattle.connect.specs.declared.session.Session.{Session}
 use Rattle.connect.specs.declared.status.Status.{Status}
 use Rattle.connect.specs.declared.status.Status.TheVariants.{Done, Usage, BadScript, TooLong, ReadFault, WriteFault, StoreFault, Damaged, Full, Memory}
-use Rattle.connect.specs.Lines.{lines_of}
-use Rattle.connect.specs.Run.{Played, passed, with_front, play}
+use Rattle.connect.specs.Lines.{lines_of, line_ends}
+use Rattle.connect.specs.Plays.{Played, passed, with_front, play}
+use Rattle.connect.specs.Run.{play_line}
 use Rattle.connect.specs.Store.{Store, store_of}
 use Rattle.connect.specs.Players.{PlayerState, IsTold, IsAt, LeavesEither}
-use Rattle.connect.specs.Sessions.{IsPrefix, room, resumed, resumed_by, Goes, HasRisen, Stops, Finishes}
-use Rattle.connect.specs.Sessions.Ends.{cut}
+use Rattle.connect.specs.Plays.{IsPrefix}
+use Rattle.connect.specs.Sessions.{room, resumed, resumed_by, Goes, HasRisen, Stops, StopsIn, StopsLast, Finishes}
+use Rattle.connect.specs.Sessions.Ends.{unsaid}
 use Rattle.connect.specs.Drives.{Writes, HasForgotten, PlaysPiece, EndsInPiece, EndsDone, EndsLast, after_tell}
 use Rattle.connect.proofs.EndLemmas.{prefix_then, prefix_same}
 use Rattle.connect.proofs.SoFar.{steps_all, ends_unwritten, ends_written, ends_both}
@@ -79,82 +81,82 @@ fed_less (Err st) (Ok _) A B f less is = absurd (let wrong : Err st ≡ Ok tt = 
 fed_less (Err st) (Err s) A B f less is =
     absurd (⊎_elim (λ (w : IsDisk st s). let wrong : Err st ≡ Ok tt = sym w.result ∙ is in cc) (λ (w : IsNoDisk st s). let wrong : Err s ≡ Ok tt = sym w.result ∙ is in cc) (which st s))
 
-module _ {D : Type 0} {d : Ghosts D} (may_leave : D → List ℕ → Type 0) (count : D → ℕ) (unwritten : Type 0) (old mid : Session D d) (before after : Option (List ℕ)) where
+module _ {D : Type 0} {d : Ghosts D} (unwritten : Type 0) (old mid : Session D d) (before after : Option (List ℕ)) where
   -- an end whose answers were written
-  tell_ok : (st : Status) (bytes : List ℕ) → Stops may_leave count ⊥ st bytes mid.player.text old mid.player.kept → (status : Status) → after_tell (Err st) (Ok tt) ≡ Err status
-      → Stops may_leave count unwritten status bytes mid.player.text old mid.player.kept
-  tell_ok st bytes stops status is =
+  tell_ok : (is_read : ℕ → Type 0) (st : Status) (bytes : List ℕ) → Stops ⊥ is_read st bytes mid.player.text old mid.player.kept → (status : Status) → after_tell (Err st) (Ok tt) ≡ Err status
+      → Stops unwritten is_read status bytes mid.player.text old mid.player.kept
+  tell_ok is_read st bytes stops status is =
       let same : st ≡ status = let e : Err st ≡ Err status = sym (after_ok st) ∙ is in cc in
-      subst (λ (s : Status). Stops may_leave count unwritten s bytes mid.player.text old mid.player.kept) same
-      (ends_written (IsAt mid.player.kept) (λ a b. IsTold old.player.kept → LeavesEither may_leave mid.player.kept a b) (HasRisen (count old.player.kept.log.disk) (count mid.player.kept.log.disk)) unwritten
-      st (λ k. resumed_by k bytes old) (resumed true bytes old) mid.player.text (length (lines_of (old.pending.items ++ bytes))) (steps_all bytes old) stops)
+      subst (λ (s : Status). Stops unwritten is_read s bytes mid.player.text old mid.player.kept) same
+      (ends_written (IsAt mid.player.kept) (λ a b. IsTold old.player.kept → LeavesEither d mid.player.kept a b) (HasRisen (d.count old.player.kept.log.disk) (d.count mid.player.kept.log.disk)) unwritten is_read
+      st (λ k. resumed_by k bytes old) (resumed true bytes old) mid.player.text stops)
 
   -- and one of whose answers a first part was written
-  tell_err : (st told : Status) (bytes : List ℕ) → Stops may_leave count ⊥ st bytes mid.player.text old mid.player.kept → (part : List ℕ) → IsPrefix part mid.player.text → unwritten → told ≡ WriteFault
-      → (status : Status) → after_tell (Err st) (Err told) ≡ Err status → Stops may_leave count unwritten status bytes part old mid.player.kept
-  tell_err st told bytes stops part begins rose fault status is =
+  tell_err : (is_read : ℕ → Type 0) (st told : Status) (bytes : List ℕ) → Stops ⊥ is_read st bytes mid.player.text old mid.player.kept → (part : List ℕ) → IsPrefix part mid.player.text → unwritten → told ≡ WriteFault
+      → (status : Status) → after_tell (Err st) (Err told) ≡ Err status → Stops unwritten is_read status bytes part old mid.player.kept
+  tell_err is_read st told bytes stops part begins rose fault status is =
       ⊎_elim
       (λ (w : IsDisk st told).
       let same : st ≡ status = let e : Err st ≡ Err status = sym w.result ∙ is in cc in
-      subst (λ (s : Status). Stops may_leave count unwritten s bytes part old mid.player.kept) same
-      (ends_both (IsAt mid.player.kept) (λ a b. IsTold old.player.kept → LeavesEither may_leave mid.player.kept a b) (HasRisen (count old.player.kept.log.disk) (count mid.player.kept.log.disk)) unwritten
-      st (λ k. resumed_by k bytes old) (resumed true bytes old) mid.player.text (length (lines_of (old.pending.items ++ bytes))) (steps_all bytes old) part begins rose w.disk w.count w.is stops))
+      subst (λ (s : Status). Stops unwritten is_read s bytes part old mid.player.kept) same
+      (ends_both (IsAt mid.player.kept) (λ a b. IsTold old.player.kept → LeavesEither d mid.player.kept a b) (HasRisen (d.count old.player.kept.log.disk) (d.count mid.player.kept.log.disk)) unwritten is_read
+      st (λ k. resumed_by k bytes old) (resumed true bytes old) mid.player.text part begins rose w.disk w.count w.is stops))
       (λ (w : IsNoDisk st told).
       let same : WriteFault ≡ status = let e : Err told ≡ Err status = sym w.result ∙ is in cc in
-      subst (λ (s : Status). Stops may_leave count unwritten s bytes part old mid.player.kept) same
-      (ends_unwritten (IsAt mid.player.kept) (λ a b. IsTold old.player.kept → LeavesEither may_leave mid.player.kept a b) (HasRisen (count old.player.kept.log.disk) (count mid.player.kept.log.disk)) unwritten
-      st (λ k. resumed_by k bytes old) (resumed true bytes old) mid.player.text (length (lines_of (old.pending.items ++ bytes))) (steps_all bytes old) part begins rose w.calm stops))
+      subst (λ (s : Status). Stops unwritten is_read s bytes part old mid.player.kept) same
+      (ends_unwritten (IsAt mid.player.kept) (λ a b. IsTold old.player.kept → LeavesEither d mid.player.kept a b) (HasRisen (d.count old.player.kept.log.disk) (d.count mid.player.kept.log.disk)) unwritten is_read
+      st (λ k. resumed_by k bytes old) (resumed true bytes old) mid.player.text part begins rose w.calm stops))
       (which st told)
 
   -- answers of a piece that was played, of which a first part was written
-  go_unwritten : (piece part more : List ℕ) → Goes piece [] old mid → IsPrefix part mid.player.text → unwritten → Stops may_leave count unwritten WriteFault (piece ++ more) part old mid.player.kept
+  go_unwritten : (piece part : List ℕ) → Goes piece [] old mid → IsPrefix part mid.player.text → unwritten → StopsIn unwritten WriteFault piece part old mid.player.kept
   unfolding play
-  go_unwritten piece part more goes begins rose =
+  go_unwritten piece part goes begins rose more =
       let here : resumed_by goes.lines (piece ++ more) old ≡ with_front mid.player.text (passed (store_of mid.player.kept)) =
       ap (λ (n : ℕ). resumed_by n (piece ++ more) old) (let same : goes.lines ≡ 0 + goes.lines = omega arith in same) ∙ goes.steps 0 more in
-      cut (record {
-        cause = inr (refl, rose);
+      unsaid (record {
+        fault = refl;
+        because = rose;
         lines = goes.lines;
+        read = omega (arith, goes.ends);
         part = prefix_then part mid.player.text (resumed_by goes.lines (piece ++ more) old).text begins
-            (prefix_same mid.player.text (resumed_by goes.lines (piece ++ more) old).text (sym (ap (λ (p : Played). p.text) here ∙ append-nil mid.player.text)));
-        first = prefix_then part mid.player.text (resumed true (piece ++ more) old).text begins (record {
-          rest = (play true (mid.count + 1) (lines_of (mid.pending.items ++ more)) (store_of mid.player.kept)).text;
-          split = ap (λ (p : Played). p.text) (goes.whole true more);
-        });
-        left = record { alive = goes.alive; store_is = sym (ap (λ (p : Played). p.store) here) };
+            (prefix_same mid.player.text (resumed_by goes.lines (piece ++ more) old).text (sym (ap (λ (p : Played Store). p.text) here ∙ append-nil mid.player.text)));
+        left = record { alive = goes.alive; store_is = sym (ap (λ (p : Played Store). p.store) here) };
       })
 
-  finish_unwritten : (part : List ℕ) → Finishes mid.player.text old mid.player.kept → IsPrefix part mid.player.text → unwritten → Stops may_leave count unwritten WriteFault [] part old mid.player.kept
-  finish_unwritten part done begins rose = cut (record {
-    cause = inr (refl, rose);
+  finish_unwritten : (part : List ℕ) → Finishes mid.player.text old mid.player.kept → IsPrefix part mid.player.text → unwritten → StopsLast unwritten WriteFault part old mid.player.kept
+  finish_unwritten part done begins rose = unsaid (record {
+    fault = refl;
+    because = rose;
     lines = length (lines_of (old.pending.items ++ []));
+    read = tt;
     part = prefix_then part mid.player.text (resumed_by (length (lines_of (old.pending.items ++ []))) [] old).text begins
-        (prefix_same mid.player.text _ (sym done.said ∙ sym (ap (λ (p : Played). p.text) (steps_all [] old))));
-    first = prefix_then part mid.player.text (resumed true [] old).text begins (prefix_same mid.player.text _ (sym done.said));
-    left = subst (IsAt mid.player.kept) (sym (ap (λ (p : Played). p.store) (steps_all [] old))) done.at;
+        (prefix_same mid.player.text _ (sym done.said ∙ sym (ap (λ (p : Played Store). p.text) (steps_all [] old))));
+    left = subst (IsAt mid.player.kept) (sym (ap (λ (p : Played Store). p.store) (steps_all [] old))) done.at;
   })
 
   -- a piece that ended the drive
-  pub fed_then : (piece : List ℕ) (fed told : Result (Unit {0}) Status) → OnOk fed (Goes piece [] old mid) → IfErr fed (λ status. (more : List ℕ) → Stops may_leave count ⊥ status (piece ++ more) mid.player.text old mid.player.kept)
+  pub fed_then : (piece : List ℕ) (fed told : Result (Unit {0}) Status) → OnOk fed (Goes piece [] old mid) → IfErr fed (λ status. StopsIn ⊥ status piece mid.player.text old mid.player.kept)
       → OnOk told (Writes mid.player.text before after) → OnErr told (IsWrittenInPart mid.player.text before after) → OnErr told unwritten → IfErr told (λ status. status ≡ WriteFault)
-      → (status : Status) → after_tell fed told ≡ Err status → EndsInPiece may_leave count unwritten status piece old mid.player.kept before after
+      → (status : Status) → after_tell fed told ≡ Err status → EndsInPiece unwritten status piece old mid.player.kept before after
   fed_then piece (Ok _) (Ok _) go stop whole part rose fault status is = absurd (let wrong : Ok tt ≡ Err status = is in cc)
   fed_then piece (Ok _) (Err s) go stop whole part rose fault status is =
       let same : WriteFault ≡ status = let e : Err s ≡ Err status = is in cc in
       record {
         text = part.part;
         written = part.added;
-        stops = λ more. subst (λ (t : Status). Stops may_leave count unwritten t (piece ++ more) part.part old mid.player.kept) same
-            (go_unwritten piece part.part more go (record { rest = part.rest; split = part.split }) rose);
+        stops = subst (λ (t : Status). StopsIn unwritten t piece part.part old mid.player.kept) same
+            (go_unwritten piece part.part go (record { rest = part.rest; split = part.split }) rose);
       }
-  fed_then piece (Err st) (Ok _) go stop whole part rose fault status is = record { text = mid.player.text; written = whole; stops = λ more. tell_ok st (piece ++ more) (stop more) status is }
+  fed_then piece (Err st) (Ok _) go stop whole part rose fault status is =
+      record { text = mid.player.text; written = whole; stops = λ more. tell_ok (λ k. k ≤ line_ends piece) st (piece ++ more) (stop more) status is }
   fed_then piece (Err st) (Err s) go stop whole part rose fault status is = record {
     text = part.part;
     written = part.added;
-    stops = λ more. tell_err st s (piece ++ more) (stop more) part.part (record { rest = part.rest; split = part.split }) rose fault status is;
+    stops = λ more. tell_err (λ k. k ≤ line_ends piece) st s (piece ++ more) (stop more) part.part (record { rest = part.rest; split = part.split }) rose fault status is;
   }
 
-  forgot : (new : Session D d) → HasForgotten mid new → (rest : ℕ → List ℕ → Store → Played)
+  forgot : (new : Session D d) → HasForgotten mid new → (rest : ℕ → List ℕ → Store → Played Store)
       → with_front mid.player.text (rest (mid.count + 1) mid.pending.items (store_of mid.player.kept))
       ≡ with_front mid.player.text (with_front new.player.text (rest (new.count + 1) new.pending.items (store_of new.player.kept)))
   forgot new silent rest =
@@ -171,9 +173,10 @@ module _ {D : Type 0} {d : Ghosts D} (may_leave : D → List ℕ → Type 0) (co
     written = whole;
     silent = ap (λ (p : PlayerState D). p.text) silent.player;
     goes = record {
-      whole = λ ended more. go.whole ended more ∙ forgot new silent (λ n b st. play ended n (lines_of (b ++ more)) st);
+      whole = λ ended more. go.whole ended more ∙ forgot new silent (λ n b st. play play_line ended n (lines_of (b ++ more)) st);
       lines = go.lines;
-      steps = λ k more. go.steps k more ∙ forgot new silent (λ n b st. play true n (take k (lines_of (b ++ more))) st);
+      ends = go.ends;
+      steps = λ k more. go.steps k more ∙ forgot new silent (λ n b st. play play_line true n (take k (lines_of (b ++ more))) st);
       alive = ap (λ (p : PlayerState D). p.kept.log.shut) silent.player ∙ go.alive;
     };
   }
@@ -191,20 +194,20 @@ module _ {D : Type 0} {d : Ghosts D} (may_leave : D → List ℕ → Type 0) (co
   finished_on (Err st) (Err s) go whole is =
       absurd (⊎_elim (λ (w : IsDisk st s). let wrong : Err st ≡ Ok tt = sym w.result ∙ is in cc) (λ (w : IsNoDisk st s). let wrong : Err s ≡ Ok tt = sym w.result ∙ is in cc) (which st s))
 
-  pub finished_then : (finished told : Result (Unit {0}) Status) → OnOk finished (Finishes mid.player.text old mid.player.kept) → IfErr finished (λ status. Stops may_leave count ⊥ status [] mid.player.text old mid.player.kept)
+  pub finished_then : (finished told : Result (Unit {0}) Status) → OnOk finished (Finishes mid.player.text old mid.player.kept) → IfErr finished (λ status. StopsLast ⊥ status mid.player.text old mid.player.kept)
       → OnOk told (Writes mid.player.text before after) → OnErr told (IsWrittenInPart mid.player.text before after) → OnErr told unwritten → IfErr told (λ status. status ≡ WriteFault)
-      → (status : Status) → after_tell finished told ≡ Err status → EndsLast may_leave count unwritten status old mid.player.kept before after
+      → (status : Status) → after_tell finished told ≡ Err status → EndsLast unwritten status old mid.player.kept before after
   finished_then (Ok _) (Ok _) go stop whole part rose fault status is = absurd (let wrong : Ok tt ≡ Err status = is in cc)
   finished_then (Ok _) (Err s) go stop whole part rose fault status is =
       let same : WriteFault ≡ status = let e : Err s ≡ Err status = is in cc in
       record {
         text = part.part;
         written = part.added;
-        stops = subst (λ (t : Status). Stops may_leave count unwritten t [] part.part old mid.player.kept) same (finish_unwritten part.part go (record { rest = part.rest; split = part.split }) rose);
+        stops = subst (λ (t : Status). StopsLast unwritten t part.part old mid.player.kept) same (finish_unwritten part.part go (record { rest = part.rest; split = part.split }) rose);
       }
-  finished_then (Err st) (Ok _) go stop whole part rose fault status is = record { text = mid.player.text; written = whole; stops = tell_ok st [] stop status is }
+  finished_then (Err st) (Ok _) go stop whole part rose fault status is = record { text = mid.player.text; written = whole; stops = tell_ok (λ _. Unit {0}) st [] stop status is }
   finished_then (Err st) (Err s) go stop whole part rose fault status is = record {
     text = part.part;
     written = part.added;
-    stops = tell_err st s [] stop part.part (record { rest = part.rest; split = part.split }) rose fault status is;
+    stops = tell_err (λ _. Unit {0}) st s [] stop part.part (record { rest = part.rest; split = part.split }) rose fault status is;
   }

@@ -1,5 +1,5 @@
 -- The answer lines of a run. Their texts are this project's own.
-use Rattle.std.specs.Prelude.{ℕ, List, ◌++◌, codes, decimal}
+use Rattle.std.specs.Prelude.{ℕ, List, [], ◌∷◌, ◌++◌, codes, decimal}
 use Rattle.std.specs.List.{flat_map}
 use Rattle.connect.specs.declared.answer.Answer.{Answer}
 use Rattle.connect.specs.declared.answer.Answer.TheVariants.{Epoch, Committed, Fenced, BadCut}
@@ -19,3 +19,7 @@ answer_text (Epoch epoch) = codes "epoch " ++ decimal epoch
 answer_text (Committed parts) = committed_text parts
 answer_text (Fenced own current) = codes "fenced " ++ decimal own ++ codes " " ++ decimal current
 answer_text (BadCut from to) = codes "badcut " ++ decimal from ++ codes " " ++ decimal to
+
+-- its line
+abbrev pub answer_line : Answer → List ℕ
+answer_line answer = answer_text answer ++ 10 ∷ []

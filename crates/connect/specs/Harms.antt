@@ -1,7 +1,10 @@
--- What may be wrong with the file of a transaction log, and at which gate: a harm of any log; else a body that is none of entries; else an
--- entry that isn't allowed where it stands; else one of which a part doesn't chain (KIP-618; the order is this project's own).
+-- What may be wrong with the file of a transaction log, and at which gate: a harm of any log; else a body that is none
+-- of entries; else an entry that isn't allowed where it stands; else one of which a part doesn't chain (KIP-618; the
+-- order is this project's own).
 use Rattle.std.specs.Prelude.{◌≡◌, ◌≤◌, ◌<◌, ◌⊎◌, ◌-◌, ◌++◌, ◌∷◌, [], ℕ, List, length, map, Option, Some}
 use Rattle.std.specs.List.{flat_map, AllByRecursion}
+use Rattle.cw_disk.specs.declared.device.Disk.{Ghosts}
+use Rattle.cw_types.specs.Faults.{Rose}
 use Rattle.cw_log.specs.declared.fault.Harm.{Harm}
 use Rattle.cw_log.specs.declared.fault.Harm.TheVariants.{Magic, Version, Kind, Header, SameSide, Length, Content, Unsafe}
 use Rattle.cw_log.specs.Log.{StandsFor, StandAlike, IsDamaged, length_of}
@@ -82,7 +85,16 @@ abbrev pub HoldsAlike : Option (List ℕ) → Option (List ℕ) → Type 0
 HoldsAlike old new = (new ≡ old) ⊎ ((file now : List ℕ) → old ≡ Some file → new ≡ Some now → StandAlike 4 file now)
 
 -- what each cause says
-abbrev pub OnOpeningCause : (damaged : ℕ → Harm → Type 0) → (store_fault : ℕ → Type 0) → (memory : Type 0) → OpeningCause → Type 0
+abbrev pub OnOpeningCause : (damaged : ℕ → Harm → Type 0) → (store_fault : ℕ → Type 0) → (memory : Type 0) →
+    OpeningCause → Type 0
 OnOpeningCause damaged store_fault memory (causes.Damaged at harm) = damaged at harm
 OnOpeningCause damaged store_fault memory (causes.StoreFault count) = store_fault count
 OnOpeningCause damaged store_fault memory causes.Memory = memory
+
+-- why a disk was refused: its file has that harm, its count rose and is this, or want of memory
+abbrev pub IsRefusedAs : {D : Type 0} → Ghosts D → (old new : D) → OpeningCause → Type 0
+IsRefusedAs d old new cause =
+    OnOpeningCause
+    (λ at harm.
+    HoldsAlike (d.holds old) (d.holds new) × ((file : List ℕ) → d.holds old ≡ Some file → IsHarmed file at harm))
+    (λ count. Rose (d.count old) (d.count new) × (count ≡ d.count new)) (HoldsAlike (d.holds old) (d.holds new)) cause

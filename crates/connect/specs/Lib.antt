@@ -6,6 +6,8 @@ pub mod Cuts
 pub mod Statuses
 pub mod Players
 pub mod Lines
+pub mod Plays
+pub mod Due
 pub mod Answers
 pub mod Run
 pub mod Sessions

@@ -1,4 +1,5 @@
--- What the reading of the bodies of a transaction log has found up to one of them. Internal: no public contract cites this.
+-- What the reading of the bodies of a transaction log has found up to one of them. Internal: no public contract cites
+-- this.
 use Rattle.std.specs.Prelude.{◌≡◌, ◌+◌, ◌++◌, ◌∷◌, [], ℕ, List, Option, Some, None, length, map, replicate, slice_index_or}
 use Rattle.std.specs.List.{flat_map, AllByRecursion}
 use Rattle.cw_log.specs.declared.fault.Harm.{Harm}
@@ -17,7 +18,8 @@ use Rattle.connect.specs.Harms.{HasUnreadable}
 -- the gate of the frame of each entry, where the frames of these groups begin at this gate
 abbrev pub gates_from : ℕ → List (List Entry) → List ℕ
 gates_from at [] = []
-gates_from at (group ∷ groups) = replicate (length group) at ++ gates_from (at + (length (entries_bytes group) + 5)) groups
+gates_from at (group ∷ groups) =
+    replicate (length group) at ++ gates_from (at + (length (entries_bytes group) + 5)) groups
 
 -- the entries and gates of these bodies
 pub record HasRead (bodies : List (List ℕ)) (replay : Replayed) : Type 0 where
@@ -38,8 +40,10 @@ HasSeen bodies reading = HasReadUpTo reading.unreadable bodies reading.replay
 
 -- the harm of these entries, whose gates are these
 abbrev pub HasEntryHarm : List Entry → List ℕ → ℕ → Harm → Type 0
-HasEntryHarm entries gates at Content = (place : ℕ) × IsFirstNotAllowed entries place × (slice_index_or gates place at ≡ at)
-HasEntryHarm entries gates at Unsafe = (place : ℕ) × AreAllowed entries × IsFirstUnchained entries place × (slice_index_or gates place at ≡ at)
+HasEntryHarm entries gates at Content =
+    (place : ℕ) × IsFirstNotAllowed entries place × (slice_index_or gates place at ≡ at)
+HasEntryHarm entries gates at Unsafe =
+    (place : ℕ) × AreAllowed entries × IsFirstUnchained entries place × (slice_index_or gates place at ≡ at)
 HasEntryHarm entries gates at Magic = ⊥
 HasEntryHarm entries gates at Version = ⊥
 HasEntryHarm entries gates at Kind = ⊥

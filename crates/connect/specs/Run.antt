@@ -1,6 +1,7 @@
--- What a script does, line by line: the answer of each line and the transactions behind it. KIP-618's epochs decide
--- which producer may commit; the script is this project's own.
-use Rattle.std.specs.Prelude.{ℕ, ◌+◌, ◌==◌, Bool, true, false, List, [], ◌∷◌, ◌++◌, map, length, take, nat_lt, find, Option, Some, None, Result, Ok, Err, if◌then◌else◌}
+-- What a line of a script does: its answer and the transactions behind it. KIP-618's epochs decide which producer may
+-- commit; the script is this project's own.
+use Rattle.std.specs.Prelude.{ℕ, ◌+◌, ◌==◌, List, map, length, find, if◌then◌else◌}
+use Rattle.std.specs.Prelude.{Option, Some, None, Result, Ok, Err}
 use Rattle.cw_types.specs.declared.ids.Tid.TheVariants.{Raw as RawId}
 use Rattle.cw_types.specs.declared.logs.LogName.TheVariants.{Txn}
 use Rattle.cw_txn.specs.declared.entry.Entry.{Entry}
@@ -8,6 +9,7 @@ use Rattle.cw_txn.specs.declared.entry.Entry.TheVariants.{Bump, Commit as Commit
 use Rattle.cw_txn.specs.Legal.{epoch_of}
 use Rattle.cw_script.specs.declared.directive.Directive.{Directive}
 use Rattle.cw_script.specs.declared.directive.Directive.TheVariants.{Init, Commit, Spawn, Kill, Deaf, Hear, Expire, Clock, Tick, Step, Settle, Rest, Held, Member, Take, Compact}
+use Rattle.cw_script.specs.declared.directive.PartEnd.{PartEnd}
 use Rattle.cw_script.specs.declared.fault.LineKind.{LineKind}
 use Rattle.cw_script.specs.declared.fault.LineKind.TheVariants.{NoWord}
 use Rattle.cw_script.specs.Lines.{line_of}
@@ -15,27 +17,19 @@ use Rattle.connect.specs.declared.answer.Answer.{Answer}
 use Rattle.connect.specs.declared.answer.Answer.TheVariants.{Epoch, Committed, Fenced, BadCut}
 use Rattle.connect.specs.declared.answer.Committing.{Committing}
 use Rattle.connect.specs.declared.status.Status.{Status}
-use Rattle.connect.specs.declared.status.Status.TheVariants.{BadScript, TooLong, Full}
-use Rattle.connect.specs.Answers.{answer_text}
+use Rattle.connect.specs.declared.status.Status.TheVariants.{BadScript, Full}
+use Rattle.connect.specs.Answers.{answer_line}
 use Rattle.connect.specs.Cuts.{committing, is_bad_cut, span_of}
-use Rattle.connect.specs.Lines.{lines_of}
+use Rattle.connect.specs.Plays.{Played, passed, stopped, within_limits}
 use Rattle.connect.specs.Store.{Store, frame_of, has_room, with_entry}
-
--- a script has at most so many lines
-abbrev pub most_lines : ℕ
-most_lines = 1000000
-
--- and a line so many bytes, its end not counted
-abbrev pub most_bytes : ℕ
-most_bytes = 65536
 
 -- the entry of a commit: its number is the length of the list before it
 abbrev pub commit_entry : ℕ → ℕ → List Committing → List Entry → Entry
 commit_entry id epoch parts entries =
     Commits (record { tid = RawId id; epoch = record { 0 = epoch }; number = length entries }) 0 (map span_of parts)
 
--- what an event gives that appends an entry: its answer and the store behind it, or where it has no room the status that
--- ends the script
+-- what an event gives that appends an entry: its answer and the store behind it, or where it has no room the status
+-- that ends the script
 abbrev pub event : Entry → Answer → Store → Result (Answer × Store) Status
 event entry answer store =
     if has_room entry store then Ok (answer, with_entry entry store) else Err (Full Txn store.size (frame_of entry))
@@ -79,78 +73,36 @@ answer_of (Member _) store = None
 answer_of (Take _ _) store = None
 answer_of (Compact _) store = None
 
--- how far a script went: the text of its answers, the store behind them, and the status with which a line ended it early
-pub record Played : Type 0 where
-  pub text : List ℕ
-  pub store : Store
-  pub stop : Option Status
-
--- nothing happens
-abbrev pub passed : Store → Played
-passed store = record { text = []; store = store; stop = None }
-
--- the script ends here
-abbrev pub stopped : Status → Store → Played
-stopped status store = record { text = []; store = store; stop = Some status }
-
--- with a text in front
-abbrev pub with_front : List ℕ → Played → Played
-with_front text played = record played { text = text ++ played.text }
-
--- one thing after another, unless the first ends the script
-abbrev pub goes_on : Option Status → List ℕ → Store → (Store → Played) → Played
-goes_on (Some status) text store next = record { text = text; store = store; stop = Some status }
-goes_on None text store next = with_front text (next store)
-
-abbrev pub behind : Played → (Store → Played) → Played
-behind played next = goes_on played.stop played.text played.store next
-
--- a line that begins, within the limits
-abbrev pub within_limits : ℕ → List ℕ → Store → Played → Played
-within_limits number line store played =
-    if nat_lt most_lines number then stopped (TooLong (most_lines + 1)) store else
-    if nat_lt most_bytes (length line) then stopped (TooLong (most_bytes + 1)) store else played
-
 -- an event is answered, or ends the script
-abbrev pub play_event : Store → Result (Answer × Store) Status → Played
-play_event store (Ok (answer, after)) = record { text = answer_text answer ++ 10 ∷ []; store = after; stop = None }
+abbrev pub play_event : Store → Result (Answer × Store) Status → Played Store
+play_event store (Ok (answer, after)) = record { text = answer_line answer; store = after; stop = None }
 play_event store (Err status) = stopped status store
 
 -- a directive, if the program plays it
-abbrev pub play_answer : ℕ → Store → Option (Result (Answer × Store) Status) → Played
+abbrev pub play_answer : ℕ → Store → Option (Result (Answer × Store) Status) → Played Store
 play_answer number store None = stopped (BadScript number NoWord) store
 play_answer number store (Some given) = play_event store given
 
 -- a line by its reading: one that is passed over, a directive, or a fault
-abbrev pub play_reading : ℕ → Store → Result (Option Directive) LineKind → Played
+abbrev pub play_reading : ℕ → Store → Result (Option Directive) LineKind → Played Store
 play_reading number store (Ok None) = passed store
 play_reading number store (Ok (Some directive)) = play_answer number store (answer_of directive store)
 play_reading number store (Err kind) = stopped (BadScript number kind) store
 
 -- a whole line
-unfoldable pub play_line : ℕ → List ℕ → Store → Played
+unfoldable pub play_line : ℕ → List ℕ → Store → Played Store
 play_line number line store = within_limits number line store (play_reading number store (line_of line))
 
--- the line behind the last line end: nothing, a line that has begun, or at the end of the input a whole line
-unfoldable pub play_last : Bool → ℕ → List ℕ → Store → Played
-play_last ended number [] store = passed store
-play_last true number (c ∷ cs) store = play_line number (c ∷ cs) store
-play_last false number (c ∷ cs) store = within_limits number (c ∷ cs) store (passed store)
+-- what a directive plays, and each kind of it
+abbrev pub directive_played : ℕ → Directive → Store → Played Store
+directive_played number directive store = play_answer number store (answer_of directive store)
 
--- all lines, from that number on
-unfoldable pub play : Bool → ℕ → List (List ℕ) → Store → Played
-play ended number [] store = passed store
-play ended number (line ∷ []) store = play_last ended number line store
-play ended number (line ∷ next ∷ lines) store = behind (play_line number line store) (λ after. play ended (number + 1) (next ∷ lines) after)
+abbrev pub init_played : ℕ → Store → Played Store
+init_played id store = play_event store (init_answer id store)
 
--- a whole script over a store
-abbrev pub run : Store → List ℕ → Played
-run store bytes = play true 1 (lines_of bytes) store
+abbrev pub commit_played : ℕ → ℕ → List PartEnd → Store → Played Store
+commit_played id epoch pairs store = play_event store
+    (commit_answer id epoch (map (committing store.entries) pairs) store)
 
--- a script of which so much was read
-abbrev pub run_so_far : Store → List ℕ → Played
-run_so_far store bytes = play false 1 (lines_of bytes) store
-
--- the first lines of a script
-abbrev pub behind_lines : ℕ → List ℕ → Store → Played
-behind_lines k bytes store = play true 1 (take k (lines_of bytes)) store
+abbrev pub done_played : ℕ → ℕ → List Committing → Store → Played Store
+done_played id epoch parts store = play_event store (done_answer id epoch parts store)

@@ -1,5 +1,5 @@
 -- The numbers that the program exits with, and the line that it prints for each. This project's own.
-use Rattle.std.specs.Prelude.{ℕ, List, ◌++◌, codes, decimal, Bool, true, false}
+use Rattle.std.specs.Prelude.{ℕ, List, [], ◌∷◌, ◌++◌, codes, decimal, Bool, true, false}
 use Rattle.cw_script.specs.Faults.{kind_text}
 use Rattle.cw_types.specs.declared.logs.DiskName.TheVariants.{Txn}
 use Rattle.cw_types.specs.declared.logs.LogName.TheVariants.{Txn as TxnLog}
@@ -23,7 +23,7 @@ status_number (Damaged disk at harm) = 6
 status_number (Full log length frame) = 10
 status_number Memory = 11
 
--- the line on standard error
+-- the words on standard error
 abbrev pub status_text : Status → List ℕ
 status_text Done = codes "status 0 Done"
 status_text Usage = codes "status 1 Usage"
@@ -35,6 +35,11 @@ status_text (StoreFault disk count) = codes "status 5 StoreFault"
 status_text (Damaged disk at harm) = codes "status 6 Damaged"
 status_text (Full log length frame) = codes "status 10 Full"
 status_text Memory = codes "status 11 Memory"
+
+-- the line with them, none at Done
+abbrev pub status_line : Status → List ℕ
+status_line Done = []
+status_line status = status_text status ++ 10 ∷ []
 
 -- whether a script ends so by what one of its lines says
 abbrev pub is_own : Status → Bool

@@ -57,6 +57,9 @@ pub record Kept (D : Type 0) : Type 0 where
   pub log : LogState D
   pub entries : List Entry
 
+abbrev pub kept_of : {D : Type 0} → LogState D → List Entry → Kept D
+kept_of log entries = record { log = log; entries = entries }
+
 -- the list with the length of its log
 abbrev pub store_of : {D : Type 0} → Kept D → Store
 store_of kept = record { entries = kept.entries; size = kept.log.length }
@@ -66,4 +69,5 @@ pub record IsKept {D : Type 0} (log : LogState D) (entries : List Entry) : Type 
   pub kind : log.kind ≡ 4
   pub limit : log.limit ≡ 2 ^ 28
   pub safe : IsSafe entries
-  pub told : (bodies : List (List ℕ)) → log.bodies ≡ Some bodies → Hold bodies entries × (log.length ≡ length_of bodies)
+  pub told : (bodies : List (List ℕ)) → log.bodies ≡ Some bodies →
+      Hold bodies entries × (log.length ≡ length_of bodies)

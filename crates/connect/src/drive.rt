@@ -1,15 +1,15 @@
 //! Reads a script to its end, and writes the answers to its lines before it reads on.
-ghost use Rattle.std.specs.Prelude.{◌≡◌, ◌≢◌, ◌≤◌, ◌<◌, ◌+◌, ◌++◌, [], ℕ, List, Bool, false, Some, IfErr, OnOk, OnErr, length, is_some};
-ghost use Rattle.cw_disk.specs.Disk.{Adds};
+ghost use Rattle.std.specs.Prelude.{◌≡◌, ◌≤◌, ◌<◌, ◌+◌, [], false, Some, IfErr, OnOk, OnErr, length, is_some};
 ghost use Rattle.cw_types.specs.Faults.{Rose};
 ghost use Rattle.cw_io.specs.Written.{IsWrittenInPart};
 ghost use Rattle.connect.specs.declared.status.Status.{Status};
 ghost use Rattle.connect.specs.declared.status.Status.TheVariants.{WriteFault};
-ghost use Rattle.connect.specs.Drives.{Writes, HasForgotten, PlaysPiece, EndsInPiece, EndsAtEnd, Caused, after_tell};
-ghost use Rattle.connect.specs.Outcomes.{Drives, Stand, StandEither};
+ghost use Rattle.connect.specs.Drives.{Writes, HasForgotten, PlaysPiece, EndsTurn, EndsAtEnd, CausedBy, LeavesLines, after_tell};
+ghost use Rattle.connect.specs.Due.{DrivesOver, most_piece};
+ghost use Rattle.connect.specs.Outcomes.{Stand, StandEither};
 ghost use Rattle.connect.specs.Players.{IsTold, IsAt, LeavesEither};
-ghost use Rattle.connect.specs.Run.{with_front, behind_lines};
-ghost use Rattle.connect.specs.Sessions.{IsBehind, IsFresh, Moves, MovesLast, room};
+ghost use Rattle.connect.specs.Run.{play_line};
+ghost use Rattle.connect.specs.Sessions.{IsFresh, Moves, MovesLast, room};
 ghost use Rattle.connect.specs.Store.{store_of};
 
 use crate::session::Session;
@@ -37,12 +37,16 @@ pub(crate) fn drive<D: Disk, I: Source, O: Sink>(
     output: &mut O,
 ) -> Driven<D>
     requires alive { transactions.log.shut ≡ false }
-    ensures drives { (bytes : List ℕ) → I.left input.old ≡ Some bytes →
-        Drives result.status (store_of transactions) bytes (I.left input.new) (O.held output.old) (O.held output.new) (Rose (O.faults output.old) (O.faults output.new))
-        (λ store. IsTold transactions → Stand (D.may_leave result.disk) store) (λ a b. IsTold transactions → StandEither (D.may_leave result.disk) a b) }
-    ensures moments { (bytes : List ℕ) → I.left input.old ≡ Some bytes → IsTold transactions →
-        Adds D.moment D.left_since transactions.log.disk result.disk (IsBehind (λ k. behind_lines k bytes (store_of transactions))) }
-    ensures caused { Caused (I.faults input.old) (I.faults input.new) (O.faults output.old) (O.faults output.new) (D.count transactions.log.disk) (D.count result.disk) result.status }
+    ensures drives { DrivesOver I.Source O.Sink play_line result.status (store_of transactions)
+        input.old input.new output.old output.new
+        (λ store. IsTold transactions → Stand (D.may_leave result.disk) store)
+        (λ a b. IsTold transactions → StandEither (D.may_leave result.disk) a b) }
+    ensures moments { LeavesLines I.Source D.Disk input.old transactions result.disk }
+
+    // A script without a byte leaves the disk as it was opened.
+    ensures idle { I.left input.old ≡ Some [] → result.disk ≡ transactions.log.disk }
+    ensures caused { CausedBy I.Source O.Sink D.Disk input.old input.new output.old output.new
+        transactions.log.disk result.disk result.status }
     ensures later_in { I.faults input.old ≤ I.faults input.new }
     ensures later_out { O.faults output.old ≤ O.faults output.new }
     ensures later { D.count transactions.log.disk ≤ D.count result.disk }
@@ -64,12 +68,13 @@ fn drive_session<D: Disk, I: Source, O: Sink>(
 ) -> Status
     requires alive { session.old.player.kept.log.shut ≡ false }
     requires fresh { IsFresh session.old.player.kept session.old }
-    ensures drives { (bytes : List ℕ) → I.left input.old ≡ Some bytes →
-        Drives result (store_of session.old.player.kept) bytes (I.left input.new) (O.held output.old) (O.held output.new) (Rose (O.faults output.old) (O.faults output.new))
-        (IsAt session.new.player.kept) (λ a b. IsTold session.old.player.kept → LeavesEither D.may_leave session.new.player.kept a b) }
-    ensures moments { (bytes : List ℕ) → I.left input.old ≡ Some bytes → IsTold session.old.player.kept →
-        Adds D.moment D.left_since session.old.player.kept.log.disk session.new.player.kept.log.disk (IsBehind (λ k. behind_lines k bytes (store_of session.old.player.kept))) }
-    ensures caused { Caused (I.faults input.old) (I.faults input.new) (O.faults output.old) (O.faults output.new) (D.count session.old.player.kept.log.disk) (D.count session.new.player.kept.log.disk) result }
+    ensures drives { DrivesOver I.Source O.Sink play_line result (store_of session.old.player.kept)
+        input.old input.new output.old output.new (IsAt session.new.player.kept)
+        (λ a b. IsTold session.old.player.kept → LeavesEither D.Disk session.new.player.kept a b) }
+    ensures moments { LeavesLines I.Source D.Disk input.old session.old.player.kept session.new.player.kept.log.disk }
+    ensures idle { I.left input.old ≡ Some [] → session.new.player.kept ≡ session.old.player.kept }
+    ensures caused { CausedBy I.Source O.Sink D.Disk input.old input.new output.old output.new
+        session.old.player.kept.log.disk session.new.player.kept.log.disk result }
     ensures told { is_some session.new.player.kept.log.bodies ≡ is_some session.old.player.kept.log.bodies }
     ensures later_in { I.faults input.old ≤ I.faults input.new }
     ensures later_out { O.faults output.old ≤ O.faults output.new }
@@ -89,14 +94,16 @@ fn drive_by<D: Disk, I: Source, O: Sink>(
     piece: &mut [u8],
 ) -> Status
     requires some { 0 < length piece.old }
+    requires short { length piece.old ≤ most_piece }
     requires alive { session.old.player.kept.log.shut ≡ false }
     requires fresh { IsFresh session.old.player.kept session.old }
-    ensures drives { (bytes : List ℕ) → I.left input.old ≡ Some bytes →
-        Drives result (store_of session.old.player.kept) bytes (I.left input.new) (O.held output.old) (O.held output.new) (Rose (O.faults output.old) (O.faults output.new))
-        (IsAt session.new.player.kept) (λ a b. IsTold session.old.player.kept → LeavesEither D.may_leave session.new.player.kept a b) }
-    ensures moments { (bytes : List ℕ) → I.left input.old ≡ Some bytes → IsTold session.old.player.kept →
-        Adds D.moment D.left_since session.old.player.kept.log.disk session.new.player.kept.log.disk (IsBehind (λ k. behind_lines k bytes (store_of session.old.player.kept))) }
-    ensures caused { Caused (I.faults input.old) (I.faults input.new) (O.faults output.old) (O.faults output.new) (D.count session.old.player.kept.log.disk) (D.count session.new.player.kept.log.disk) result }
+    ensures drives { DrivesOver I.Source O.Sink play_line result (store_of session.old.player.kept)
+        input.old input.new output.old output.new (IsAt session.new.player.kept)
+        (λ a b. IsTold session.old.player.kept → LeavesEither D.Disk session.new.player.kept a b) }
+    ensures moments { LeavesLines I.Source D.Disk input.old session.old.player.kept session.new.player.kept.log.disk }
+    ensures idle { I.left input.old ≡ Some [] → session.new.player.kept ≡ session.old.player.kept }
+    ensures caused { CausedBy I.Source O.Sink D.Disk input.old input.new output.old output.new
+        session.old.player.kept.log.disk session.new.player.kept.log.disk result }
     ensures told { is_some session.new.player.kept.log.bodies ≡ is_some session.old.player.kept.log.bodies }
     ensures later_in { I.faults input.old ≤ I.faults input.new }
     ensures later_out { O.faults output.old ≤ O.faults output.new }
@@ -123,8 +130,9 @@ fn turn<D: Disk, O: Sink>(
 ) -> Result<(), Status>
     requires alive { session.old.player.kept.log.shut ≡ false }
     ensures go { OnOk result (PlaysPiece piece.now session.old session.new (O.held output.old) (O.held output.new)) }
-    ensures stop { IfErr result (λ status. EndsInPiece D.may_leave D.count (Rose (O.faults output.old) (O.faults output.new)) status piece.now session.old session.new.player.kept (O.held output.old) (O.held output.new)) }
-    ensures moves { Moves D.moment D.left_since D.count piece.now session.old session.new.player.kept }
+    ensures stop { IfErr result (λ status. EndsTurn O.Sink status piece.now session.old session.new.player.kept
+        output.old output.new) }
+    ensures moves { Moves piece.now session.old session.new.player.kept }
     ensures later { O.faults output.old ≤ O.faults output.new }
     ensures less { OnOk result (room session.new + length piece.now ≤ room session.old) }
 {
@@ -136,8 +144,9 @@ fn turn<D: Disk, O: Sink>(
 // Plays the end of the script, and writes the answers.
 fn last<D: Disk, O: Sink>(session: &mut Session<D>, output: &mut O) -> Status
     requires alive { session.old.player.kept.log.shut ≡ false }
-    ensures ends { EndsAtEnd D.may_leave D.count (Rose (O.faults output.old) (O.faults output.new)) result session.old session.new.player.kept (O.held output.old) (O.held output.new) }
-    ensures moves { MovesLast D.moment D.left_since D.count session.old session.new.player.kept }
+    ensures ends { EndsAtEnd O.Sink result session.old session.new.player.kept output.old output.new }
+    ensures moves { MovesLast session.old session.new.player.kept }
+    ensures idle { session.old.pending.items ≡ [] → session.new.player.kept ≡ session.old.player.kept }
     ensures later { O.faults output.old ≤ O.faults output.new }
 {
     let finished = session.finish();

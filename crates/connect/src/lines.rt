@@ -1,5 +1,5 @@
 //! The lines of a text.
-ghost use Rattle.std.specs.Prelude.{◌≡◌, ◌+◌, ◌∷◌, ◌++◌, true, MatchOption, length};
+ghost use Rattle.std.specs.Prelude.{◌≡◌, ◌+◌, ◌∷◌, ◌++◌, true, MatchOption};
 ghost use Rattle.connect.specs.Lines.{is_line};
 
 use memchr::memchr;

@@ -1,13 +1,10 @@
 //! Opening the transaction log: its list is read in one pass, and the coordinator is made of it.
-ghost use Rattle.std.specs.Prelude.{◌≡◌, ◌≤◌, ◌<◌, ◌⊎◌, ⊤, List, ℕ, Some, None, false, [], length, slice_index_or, is_some, IfOk, IfErr, OnOk, MatchResult};
-ghost use Rattle.cw_disk.specs.Disk.{Adds};
-ghost use Rattle.cw_types.specs.Faults.{Rose};
+ghost use Rattle.std.specs.Prelude.{◌≡◌, ◌≤◌, ◌<◌, ◌⊎◌, List, ℕ, Some, None, false, is_some, IfOk, IfErr, MatchResult};
+ghost use Rattle.cw_disk.specs.Told.{Adds, Told};
 ghost use Rattle.cw_log.specs.declared.fault.Harm.{Harm};
-ghost use Rattle.cw_log.specs.Calls.{Reads};
-ghost use Rattle.cw_log.specs.Log.{OnCause, StandsFor, StandAlike, length_of};
-ghost use Rattle.cw_log.specs.State.{HasSameList};
-ghost use Rattle.connect.specs.Store.{Store, Hold, IsImage, IsSafe, store_of};
-ghost use Rattle.connect.specs.Harms.{IsHarmed, IsReadable, HasUnreadable, HasBodyHarm, HoldsAlike, OnOpeningCause};
+ghost use Rattle.cw_log.specs.Log.{OpensAs, StandAlike};
+ghost use Rattle.connect.specs.Store.{Store, IsImage, IsSafe, store_of};
+ghost use Rattle.connect.specs.Harms.{IsHarmed, IsRefusedAs};
 ghost use Rattle.connect.specs.Reading.{IsCauseOf};
 
 use crate::reading::Reading;
@@ -43,12 +40,10 @@ pub(crate) struct OpeningFault<D> {
 }
 
 /// Opens a disk as the transaction log, whatever its file holds: a new log where the file is unmade. Damaged
-/// comes exactly where the file has a harm, its first one; with each `Err` the disk comes back. The seed is as for
-/// `Replay::new`.
+/// comes exactly where the file has a harm, its first one; with each `Err` the disk comes back.
 pub(crate) fn open_transactions<D: Disk>(
     alloc: Global,
     disk: D,
-    seed: u128,
 ) -> Result<Transactions<D>, OpeningFault<D>>
     ensures alive { IfOk result (λ kept. (kept.log.shut ≡ false) × (kept.log.failed ≡ None)) }
     ensures safe { IfOk result (λ kept. IsSafe kept.entries) }
@@ -59,20 +54,21 @@ pub(crate) fn open_transactions<D: Disk>(
     ensures rest { IfOk result (λ kept. (file : List ℕ) → D.holds disk ≡ Some file →
         (image : List ℕ) → D.may_leave kept.log.disk image → IsImage (store_of kept) image) }
 
-    ensures cause { IfErr result (λ fault. OnOpeningCause
-        (λ at harm. HoldsAlike (D.holds disk) (D.holds fault.disk) × ((file : List ℕ) → D.holds disk ≡ Some file → IsHarmed file at harm))
-        (λ count. Rose (D.count disk) (D.count fault.disk) × (count ≡ D.count fault.disk))
-        (HoldsAlike (D.holds disk) (D.holds fault.disk)) fault.cause) }
+    // A new log where the file was unmade, else the file up to its first closed gate.
+    ensures bytes { IfOk result (λ kept. Told D.Disk disk (λ file. OpensAs 4 kept.log.number file (D.holds kept.log.disk))) }
+
+    ensures cause { IfErr result (λ fault. IsRefusedAs D.Disk disk fault.disk fault.cause) }
     ensures left { (file : List ℕ) → D.holds disk ≡ Some file → IfErr result (λ fault. (image : List ℕ) →
         D.may_leave fault.disk image → D.may_leave disk image ⊎ StandAlike 4 file image) }
 
     // A stop at any moment of the call leaves a file that stands for the same list.
     ensures any_moment { (file : List ℕ) → D.holds disk ≡ Some file → MatchResult result
-        (λ kept. Adds D.moment D.left_since disk kept.log.disk (StandAlike 4 file))
-        (λ fault. Adds D.moment D.left_since disk fault.disk (StandAlike 4 file)) }
-    ensures later { MatchResult result (λ kept. D.count disk ≤ D.count kept.log.disk) (λ fault. D.count disk ≤ D.count fault.disk) }
+        (λ kept. Adds D.Disk disk kept.log.disk (StandAlike 4 file))
+        (λ fault. Adds D.Disk disk fault.disk (StandAlike 4 file)) }
+    ensures later { MatchResult result
+        (λ kept. D.count disk ≤ D.count kept.log.disk) (λ fault. D.count disk ≤ D.count fault.disk) }
 {
-    let mut reading = Reading::new(alloc, seed);
+    let mut reading = Reading::new(alloc);
     match TopicLog::open_with(alloc, disk, LogName::Txn, MOST_LOG, &mut reading) {
         Ok(log) => match reading.into_coordinator() {
             Ok(coordinator) => {
@@ -102,6 +98,8 @@ fn refused<D: Disk>(disk: D, cause: OpenCause) -> OpeningFault<D>
 /// for a list that is safe.
 pub(crate) fn files_are_opened_one_way()
     ensures one { (file : List ℕ) (this that : Store) → IsImage this file → IsImage that file → this ≡ that }
-    ensures none { (file : List ℕ) (store : Store) (at : ℕ) (harm : Harm) → IsImage store file → IsSafe store.entries → IsHarmed file at harm → ⊥ }
-    ensures harm { (file : List ℕ) (at place : ℕ) (harm other : Harm) → IsHarmed file at harm → IsHarmed file place other → (at ≡ place) × (harm ≡ other) }
+    ensures none { (file : List ℕ) (store : Store) (at : ℕ) (harm : Harm) →
+        IsImage store file → IsSafe store.entries → ¬ IsHarmed file at harm }
+    ensures harm { (file : List ℕ) (at place : ℕ) (harm other : Harm) →
+        IsHarmed file at harm → IsHarmed file place other → (at ≡ place) × (harm ≡ other) }
 {}

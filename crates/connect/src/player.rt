@@ -1,13 +1,13 @@
 //! Plays the directives of a script over the transactions.
-ghost use Rattle.std.specs.Prelude.{◌≡◌, ◌+◌, ◌≤◌, ◌<◌, ◌^◌, ℕ, [], ◌∷◌, ◌++◌, List, map, length, find, false, Some, None, Ok, Option, IfOk, OnOk, OnErr, option_map};
+ghost use Rattle.std.specs.Prelude.{◌≡◌, ◌+◌, ◌≤◌, ◌<◌, [], ◌++◌, map, length, find, false, Some, None, Ok, Option, IfOk, OnOk, OnErr};
 ghost use Rattle.cw_script.specs.Pairs.{ArePairs};
 ghost use Rattle.cw_script.specs.Spelling.{IsSayable};
 ghost use Rattle.cw_script.specs.declared.directive.PartEnd.{PartEnd};
 ghost use Rattle.cw_types.specs.declared.ids.Tid.TheVariants.{Raw};
 ghost use Rattle.cw_txn.specs.Legal.{epoch_of};
-ghost use Rattle.connect.specs.Answers.{answer_text};
-ghost use Rattle.connect.specs.Cuts.{committing, is_bad_cut, span_of};
-ghost use Rattle.connect.specs.Run.{answer_of, init_answer, commit_answer, done_answer, play_event, play_answer, play_line};
+ghost use Rattle.connect.specs.Answers.{answer_line};
+ghost use Rattle.connect.specs.Cuts.{AreAsked, committing, is_bad_cut, span_of};
+ghost use Rattle.connect.specs.Run.{directive_played, init_played, commit_played, done_played, play_line};
 ghost use Rattle.connect.specs.Store.{store_of};
 
 use crate::answer::{Answer, Committing};
@@ -83,9 +83,10 @@ impl<D: Disk> Player<D> {
     /// Plays a whole line.
     pub(crate) fn play_line(&mut self, number: u64, line: &[u8]) -> Result<(), Status>
         requires alive { self.old.kept.log.shut ≡ false }
-        ensures done { HasDone D.may_leave D.count result self.old self.new (play_line number line.now (store_of self.old.kept)) }
+        ensures done { HasDone D.Disk result self.old self.new (play_line number line.now (store_of self.old.kept)) }
         ensures within { OnOk result ((number ≤ 1000000) × (length line.now ≤ 65536)) }
-        ensures steps { Steps D.moment D.left_since D.count self.old.kept self.new.kept (play_line number line.now (store_of self.old.kept)).store }
+        ensures steps { Steps D.Disk self.old.kept self.new.kept
+            (play_line number line.now (store_of self.old.kept)).store }
     {
         if number > MOST_LINES {
             return Err(Status::TooLong(MOST_LINES + 1));
@@ -108,8 +109,10 @@ impl<D: Disk> Player<D> {
     fn play(&mut self, number: u64, directive: &Directive) -> Result<(), Status>
         requires alive { self.old.kept.log.shut ≡ false }
         requires sayable { IsSayable directive.now }
-        ensures done { HasDone D.may_leave D.count result self.old self.new (play_answer number (store_of self.old.kept) (answer_of directive.now (store_of self.old.kept))) }
-        ensures steps { Steps D.moment D.left_since D.count self.old.kept self.new.kept (play_answer number (store_of self.old.kept) (answer_of directive.now (store_of self.old.kept))).store }
+        ensures done { HasDone D.Disk result self.old self.new
+            (directive_played number directive.now (store_of self.old.kept)) }
+        ensures steps { Steps D.Disk self.old.kept self.new.kept
+            (directive_played number directive.now (store_of self.old.kept)).store }
     {
         match directive {
             Directive::Init(id) => self.init(*id),
@@ -124,8 +127,8 @@ impl<D: Disk> Player<D> {
     // A producer's next epoch.
     fn init(&mut self, id: u32) -> Result<(), Status>
         requires alive { self.old.kept.log.shut ≡ false }
-        ensures done { HasDone D.may_leave D.count result self.old self.new (play_event (store_of self.old.kept) (init_answer id (store_of self.old.kept))) }
-        ensures steps { Steps D.moment D.left_since D.count self.old.kept self.new.kept (play_event (store_of self.old.kept) (init_answer id (store_of self.old.kept))).store }
+        ensures done { HasDone D.Disk result self.old self.new (init_played id (store_of self.old.kept)) }
+        ensures steps { Steps D.Disk self.old.kept self.new.kept (init_played id (store_of self.old.kept)).store }
     {
         let epoch = self.transactions.bump(&Tid::Raw(id))?;
         self.say(&Answer::Epoch(epoch.0))?;
@@ -136,8 +139,10 @@ impl<D: Disk> Player<D> {
     fn commit(&mut self, id: u32, epoch: u64, pairs: &[PartEnd]) -> Result<(), Status>
         requires alive { self.old.kept.log.shut ≡ false }
         requires named { ArePairs pairs.now }
-        ensures done { HasDone D.may_leave D.count result self.old self.new (play_event (store_of self.old.kept) (commit_answer id epoch (map (committing self.old.kept.entries) pairs.now) (store_of self.old.kept))) }
-        ensures steps { Steps D.moment D.left_since D.count self.old.kept self.new.kept (play_event (store_of self.old.kept) (commit_answer id epoch (map (committing self.old.kept.entries) pairs.now) (store_of self.old.kept))).store }
+        ensures done { HasDone D.Disk result self.old self.new
+            (commit_played id epoch pairs.now (store_of self.old.kept)) }
+        ensures steps { Steps D.Disk self.old.kept self.new.kept
+            (commit_played id epoch pairs.now (store_of self.old.kept)).store }
     {
         let current = self.transactions.epoch_of(&Tid::Raw(id));
         if epoch != current {
@@ -181,9 +186,11 @@ impl<D: Disk> Player<D> {
         requires alive { self.old.kept.log.shut ≡ false }
         requires current { epoch ≡ epoch_of (Raw id) self.old.kept.entries }
         requires grow { find is_bad_cut parts.items ≡ None }
-        requires asked { (pairs : List PartEnd) × (parts.items ≡ map (committing self.old.kept.entries) pairs) × ArePairs pairs }
-        ensures done { HasDone D.may_leave D.count result self.old self.new (play_event (store_of self.old.kept) (done_answer id epoch parts.items (store_of self.old.kept))) }
-        ensures steps { Steps D.moment D.left_since D.count self.old.kept self.new.kept (play_event (store_of self.old.kept) (done_answer id epoch parts.items (store_of self.old.kept))).store }
+        requires asked { AreAsked self.old.kept.entries parts.items }
+        ensures done { HasDone D.Disk result self.old self.new
+            (done_played id epoch parts.items (store_of self.old.kept)) }
+        ensures steps { Steps D.Disk self.old.kept self.new.kept
+            (done_played id epoch parts.items (store_of self.old.kept)).store }
     {
         let spans = spans_of(self.alloc, &parts)?;
         let tag = Tag {
@@ -198,7 +205,7 @@ impl<D: Disk> Player<D> {
 
     // Adds an answer's line to the text.
     fn say(&mut self, answer: &Answer) -> Result<(), AllocError>
-        ensures ok { OnOk result (self.new ≡ record self.old { text = self.old.text ++ (answer_text answer.now ++ 10 ∷ []) }) }
+        ensures ok { OnOk result (self.new ≡ record self.old { text = self.old.text ++ answer_line answer.now }) }
         ensures err { OnErr result (self.new ≡ self.old) }
     {
         self.line.clear();

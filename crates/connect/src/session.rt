@@ -1,5 +1,5 @@
 //! Cuts what is read into lines, and has each line played as soon as it is whole.
-ghost use Rattle.std.specs.Prelude.{◌≡◌, ◌+◌, ◌≤◌, ◌<◌, ◌++◌, ◌∷◌, [], ℕ, List, Bool, true, false, None, length, vec_len, IfErr, OnOk};
+ghost use Rattle.std.specs.Prelude.{◌≡◌, ◌+◌, ◌≤◌, ◌<◌, ◌++◌, ◌∷◌, [], true, false, length, vec_len, IfErr, OnOk};
 ghost use Rattle.connect.specs.Lines.{is_line};
 
 use crate::lines::cut_line;
@@ -24,9 +24,9 @@ pub(crate) struct Session<D: Disk> {
 }
 
 impl<D: Disk> Session<D> {
-    ghost use Rattle.std.specs.Prelude.{◌≡◌, ◌+◌, ◌≤◌, ◌<◌, ◌++◌, ◌∷◌, [], ℕ, List, Bool, true, false, None, length, vec_len, IfErr, OnOk};
+    ghost use Rattle.std.specs.Prelude.{◌≡◌, ◌+◌, ◌≤◌, ◌<◌, ◌++◌, ◌∷◌, [], true, false, length, vec_len, IfErr, OnOk};
     ghost use Rattle.connect.specs.Lines.{is_line};
-    ghost use Rattle.connect.specs.Sessions.{resumed, room, Goes, Moves, MovesLast, Stops, Finishes, IsFresh};
+    ghost use Rattle.connect.specs.Sessions.{room, Goes, Moves, MovesLast, StopsIn, StopsLast, Finishes, IsFresh};
 
     /// At the start of a script.
     #[tactic(auto, unfolding(crate::specs::Lines::is_line))]
@@ -51,8 +51,9 @@ impl<D: Disk> Session<D> {
     pub(crate) fn feed(&mut self, piece: &[u8]) -> Result<(), Status>
         requires alive { self.old.player.kept.log.shut ≡ false }
         ensures go { OnOk result (Goes piece.now [] self.old self.new) }
-        ensures stop { IfErr result (λ status. (more : List ℕ) → Stops D.may_leave D.count ⊥ status (piece.now ++ more) self.new.player.text self.old self.new.player.kept) }
-        ensures moves { Moves D.moment D.left_since D.count piece.now self.old self.new.player.kept }
+        ensures stop { IfErr result (λ status.
+            StopsIn ⊥ status piece.now self.new.player.text self.old self.new.player.kept) }
+        ensures moves { Moves piece.now self.old self.new.player.kept }
         ensures less { OnOk result (room self.new + length piece.now ≤ room self.old) }
     {
         let mut rest = piece;
@@ -67,8 +68,10 @@ impl<D: Disk> Session<D> {
     pub(crate) fn finish(&mut self) -> Result<(), Status>
         requires alive { self.old.player.kept.log.shut ≡ false }
         ensures go { OnOk result (Finishes self.new.player.text self.old self.new.player.kept) }
-        ensures stop { IfErr result (λ status. Stops D.may_leave D.count ⊥ status [] self.new.player.text self.old self.new.player.kept) }
-        ensures moves { MovesLast D.moment D.left_since D.count self.old self.new.player.kept }
+        ensures stop { IfErr result (λ status.
+            StopsLast ⊥ status self.new.player.text self.old self.new.player.kept) }
+        ensures moves { MovesLast self.old self.new.player.kept }
+        ensures idle { self.old.pending.items ≡ [] → self.new.player.kept ≡ self.old.player.kept }
     {
         if self.pending.is_empty() {
             return Ok(());
@@ -81,8 +84,9 @@ impl<D: Disk> Session<D> {
         requires alive { self.old.player.kept.log.shut ≡ false }
         requires whole { is_line tail.now ≡ true }
         ensures go { OnOk result (Goes (tail.now ++ 10 ∷ []) [] self.old self.new) }
-        ensures stop { IfErr result (λ status. (more : List ℕ) → Stops D.may_leave D.count ⊥ status (tail.now ++ 10 ∷ more) self.new.player.text self.old self.new.player.kept) }
-        ensures moves { Moves D.moment D.left_since D.count (tail.now ++ 10 ∷ []) self.old self.new.player.kept }
+        ensures stop { IfErr result (λ status.
+            StopsIn ⊥ status (tail.now ++ 10 ∷ []) self.new.player.text self.old self.new.player.kept) }
+        ensures moves { Moves (tail.now ++ 10 ∷ []) self.old self.new.player.kept }
         ensures less { OnOk result (room self.new + length tail.now + 1 ≤ room self.old) }
     {
         if self.pending.is_empty() {
@@ -96,8 +100,9 @@ impl<D: Disk> Session<D> {
     fn play_held(&mut self) -> Result<(), Status>
         requires alive { self.old.player.kept.log.shut ≡ false }
         ensures go { OnOk result (Goes (10 ∷ []) [] self.old self.new) }
-        ensures stop { IfErr result (λ status. (more : List ℕ) → Stops D.may_leave D.count ⊥ status (10 ∷ more) self.new.player.text self.old self.new.player.kept) }
-        ensures moves { Moves D.moment D.left_since D.count (10 ∷ []) self.old self.new.player.kept }
+        ensures stop { IfErr result (λ status.
+            StopsIn ⊥ status (10 ∷ []) self.new.player.text self.old self.new.player.kept) }
+        ensures moves { Moves (10 ∷ []) self.old self.new.player.kept }
         ensures less { OnOk result (room self.new + 1 ≤ room self.old) }
     {
         self.player.play_line(self.count + 1, &self.pending)?;
@@ -112,8 +117,9 @@ impl<D: Disk> Session<D> {
         requires whole { is_line line.now ≡ true }
         requires alone { self.old.pending.items ≡ [] }
         ensures go { OnOk result (Goes (line.now ++ 10 ∷ []) [] self.old self.new) }
-        ensures stop { IfErr result (λ status. (more : List ℕ) → Stops D.may_leave D.count ⊥ status (line.now ++ 10 ∷ more) self.new.player.text self.old self.new.player.kept) }
-        ensures moves { Moves D.moment D.left_since D.count (line.now ++ 10 ∷ []) self.old self.new.player.kept }
+        ensures stop { IfErr result (λ status.
+            StopsIn ⊥ status (line.now ++ 10 ∷ []) self.new.player.text self.old self.new.player.kept) }
+        ensures moves { Moves (line.now ++ 10 ∷ []) self.old self.new.player.kept }
         ensures less { OnOk result (room self.new + length line.now + 1 ≤ room self.old) }
     {
         self.player.play_line(self.count + 1, line)?;
@@ -126,8 +132,9 @@ impl<D: Disk> Session<D> {
         requires alive { self.old.player.kept.log.shut ≡ false }
         requires whole { is_line tail.now ≡ true }
         ensures go { OnOk result (Goes tail.now [] self.old self.new) }
-        ensures stop { IfErr result (λ status. (more : List ℕ) → Stops D.may_leave D.count ⊥ status (tail.now ++ more) self.new.player.text self.old self.new.player.kept) }
-        ensures moves { Moves D.moment D.left_since D.count tail.now self.old self.new.player.kept }
+        ensures stop { IfErr result (λ status.
+            StopsIn ⊥ status tail.now self.new.player.text self.old self.new.player.kept) }
+        ensures moves { Moves tail.now self.old self.new.player.kept }
         ensures less { OnOk result (room self.new + length tail.now ≤ room self.old) }
         ensures pending { OnOk result (self.new.pending.items ≡ self.old.pending.items ++ tail.now) }
     {

@@ -6,8 +6,7 @@ use crate::transactions::EventFault;
 use cw_log::Harm;
 use cw_script::{LineKind, ScriptFault};
 use cw_types::{DiskName, LogName};
-use std::alloc::{AllocError, AllocFailed};
-use std::fmt;
+use std::alloc::AllocError;
 
 /// How a run ended. `main` exits with the status's number.
 #[derive(Clone, Copy, Debug, PartialEq, Eq, Drop)]
@@ -75,28 +74,6 @@ impl Status {
             Status::Damaged { .. } => 6,
             Status::Full { .. } => 10,
             Status::Memory => 11,
-        }
-    }
-}
-
-impl fmt::Display for Status {
-    ghost use Rattle.std.specs.Prelude.{Some};
-    ghost use Rattle.connect.specs.Statuses.{status_text};
-
-    ghost output = { λ status. Some (status_text status) };
-
-    fn fmt<W: fmt::Write>(&self, f: &mut fmt::Formatter<W>) -> fmt::Result {
-        match self {
-            Status::Done => write!(f, "status 0 Done"),
-            Status::Usage => write!(f, "status 1 Usage"),
-            Status::BadScript { line, kind } => write!(f, "status 2 BadScript {line} {kind}"),
-            Status::TooLong(_) => write!(f, "status 2 TooLong"),
-            Status::ReadFault => write!(f, "status 3 ReadFault"),
-            Status::WriteFault => write!(f, "status 4 WriteFault"),
-            Status::StoreFault { .. } => write!(f, "status 5 StoreFault"),
-            Status::Damaged { .. } => write!(f, "status 6 Damaged"),
-            Status::Full { .. } => write!(f, "status 10 Full"),
-            Status::Memory => write!(f, "status 11 Memory"),
         }
     }
 }

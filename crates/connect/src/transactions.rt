@@ -1,14 +1,13 @@
 //! The transactions of a cluster on their disk: each event is in the log before it is answered.
-ghost use Rattle.std.specs.Prelude.{◌≡◌, ◌≤◌, ◌+◌, ◌^◌, ◌++◌, ◌∷◌, [], ℕ, List, Contains, Some, false, nat_le, length, is_some, IfOk, OnOk, OnErr};
-ghost use Rattle.cw_disk.specs.Disk.{Adds};
-ghost use Rattle.cw_log.specs.Calls.{Reads};
+ghost use Rattle.std.specs.Prelude.{◌≡◌, ◌≤◌, ◌+◌, ◌^◌, ◌++◌, ◌∷◌, [], ℕ, List, Contains, Some, false, nat_le, length, is_some, IfOk, OnOk};
+ghost use Rattle.cw_disk.specs.Told.{Reads};
 ghost use Rattle.cw_log.specs.State.{IsSameLog};
 ghost use Rattle.cw_txn.specs.declared.entry.Entry.{Entry};
 ghost use Rattle.cw_txn.specs.Body.{AreEntries, IsShort, entries_bytes};
 ghost use Rattle.cw_txn.specs.History.{end_of};
 ghost use Rattle.cw_txn.specs.Legal.{epoch_of};
-ghost use Rattle.connect.specs.Store.{IsImage, IsSafe, IsKept, store_of};
-ghost use Rattle.connect.specs.Events.{Happens, IsLeft, IsBetween, IsNextOfScript, entries_after};
+ghost use Rattle.connect.specs.Store.{IsImage, IsSafe, IsKept, kept_of, store_of};
+ghost use Rattle.connect.specs.Events.{Happens, LeavesEvent, LeavesBetween, IsNextOfScript, entries_after};
 
 use cw_disk::Disk;
 use cw_log::{AppendFault, TopicLog};
@@ -104,11 +103,9 @@ impl<D: Disk> Transactions<D> {
     pub(crate) fn bump(&mut self, tid: &Tid) -> Result<Epoch, EventFault>
         requires alive { self.old.log.shut ≡ false }
         ensures epoch { IfOk result (λ epoch. epoch.0 ≡ epoch_of tid.now self.old.entries + 1) }
-        ensures happens { Happens D.count (Entry.Bump tid.now) result self.old self.new }
-        ensures left { (bodies : List (List ℕ)) → self.old.log.bodies ≡ Some bodies → (image : List ℕ) →
-            D.may_leave self.new.log.disk image → IsLeft (Entry.Bump tid.now) result (store_of self.old) (store_of self.new) image }
-        ensures any_moment { (bodies : List (List ℕ)) → self.old.log.bodies ≡ Some bodies →
-            Adds D.moment D.left_since self.old.log.disk self.new.log.disk (IsBetween (Entry.Bump tid.now) (store_of self.old)) }
+        ensures happens { Happens D.Disk (Entry.Bump tid.now) result self.old self.new }
+        ensures left { LeavesEvent D.Disk (Entry.Bump tid.now) result self.old self.new }
+        ensures any_moment { LeavesBetween D.Disk (Entry.Bump tid.now) self.old self.new }
         ensures later { D.count self.old.log.disk ≤ D.count self.new.log.disk }
         ensures told { is_some self.new.log.bodies ≡ is_some self.old.log.bodies }
     {
@@ -130,11 +127,9 @@ impl<D: Disk> Transactions<D> {
     pub(crate) fn commit(&mut self, tag: &Tag, spans: &[Span]) -> Result<(), EventFault>
         requires alive { self.old.log.shut ≡ false }
         requires next { IsNextOfScript self.old.entries tag.now spans.now }
-        ensures happens { Happens D.count (Entry.Commit tag.now 0 spans.now) result self.old self.new }
-        ensures left { (bodies : List (List ℕ)) → self.old.log.bodies ≡ Some bodies → (image : List ℕ) →
-            D.may_leave self.new.log.disk image → IsLeft (Entry.Commit tag.now 0 spans.now) result (store_of self.old) (store_of self.new) image }
-        ensures any_moment { (bodies : List (List ℕ)) → self.old.log.bodies ≡ Some bodies →
-            Adds D.moment D.left_since self.old.log.disk self.new.log.disk (IsBetween (Entry.Commit tag.now 0 spans.now) (store_of self.old)) }
+        ensures happens { Happens D.Disk (Entry.Commit tag.now 0 spans.now) result self.old self.new }
+        ensures left { LeavesEvent D.Disk (Entry.Commit tag.now 0 spans.now) result self.old self.new }
+        ensures any_moment { LeavesBetween D.Disk (Entry.Commit tag.now 0 spans.now) self.old self.new }
         ensures later { D.count self.old.log.disk ≤ D.count self.new.log.disk }
         ensures told { is_some self.new.log.bodies ≡ is_some self.old.log.bodies }
     {
@@ -189,11 +184,12 @@ fn log_entry<D: Disk>(
     ensures same { coordinator.new.entries ≡ coordinator.old.entries }
     ensures reserved { OnOk result (Contains coordinator.new.reserved entry) }
     ensures kept { IsKept log.new (entries_after result entry coordinator.old.entries) }
-    ensures happens { Happens D.count entry result (record { log = log.old; entries = coordinator.old.entries }) (record { log = log.new; entries = entries_after result entry coordinator.old.entries }) }
-    ensures left { (bodies : List (List ℕ)) → log.old.bodies ≡ Some bodies → (image : List ℕ) → D.may_leave log.new.disk image →
-        IsLeft entry result (record { entries = coordinator.old.entries; size = log.old.length }) (record { entries = entries_after result entry coordinator.old.entries; size = log.new.length }) image }
-    ensures any_moment { (bodies : List (List ℕ)) → log.old.bodies ≡ Some bodies →
-        Adds D.moment D.left_since log.old.disk log.new.disk (IsBetween entry (record { entries = coordinator.old.entries; size = log.old.length })) }
+    ensures happens { Happens D.Disk entry result (kept_of log.old coordinator.old.entries)
+        (kept_of log.new (entries_after result entry coordinator.old.entries)) }
+    ensures left { LeavesEvent D.Disk entry result (kept_of log.old coordinator.old.entries)
+        (kept_of log.new (entries_after result entry coordinator.old.entries)) }
+    ensures any_moment { LeavesBetween D.Disk entry (kept_of log.old coordinator.old.entries)
+        (kept_of log.new (entries_after result entry coordinator.old.entries)) }
     ensures later { D.count log.old.disk ≤ D.count log.new.disk }
     ensures told { is_some log.new.bodies ≡ is_some log.old.bodies }
 {
@@ -233,7 +229,7 @@ fn prepare<D: Disk>(
     ensures reserved { OnOk result (Contains coordinator.new.reserved entry) }
     ensures entries { coordinator.new.entries ≡ coordinator.old.entries }
     ensures same { IsSameLog log.old log.new }
-    ensures reads { Reads D.holds D.may_leave D.moment D.left_since D.count D.reserved log.old.disk log.new.disk }
+    ensures reads { Reads D.Disk log.old.disk log.new.disk }
 {
     let entries = [entry];
     let body = write_entries(alloc, &entries)?;

@@ -31,12 +31,12 @@ alike-push a b r alike above =
       rises_too = rises-push 0 b r alike.rises_too above;
       end = end_of-push a r ∙ ap (λ (e : ℕ). max e (r.offset + 1)) alike.end ∙ sym (end_of-push b r);
       last = λ key.
-        last_where-push (has_key key) a r ∙ ap (λ (o : Option ConfigRecord). cond (has_key key r) (Some r) o) (alike.last key) ∙ sym (last_where-push (has_key key) b r);
+          last_where-push (has_key key) a r ∙ ap (λ (o : Option ConfigRecord). cond (has_key key r) (Some r) o) (alike.last key) ∙ sym (last_where-push (has_key key) b r);
       committed = λ id.
-        committed-push id a r alike.rises above_a
-        ∙ ap (λ (o : Option ConfigRecord). cond (has_key (Commit id.connector) r) o (committed_record id a)) (alike.last (Task id))
-        ∙ ap (λ (o : Option ConfigRecord). cond (has_key (Commit id.connector) r) (last_of (Task id) b) o) (alike.committed id)
-        ∙ sym (committed-push id b r alike.rises_too above);
+          committed-push id a r alike.rises above_a
+          ∙ ap (λ (o : Option ConfigRecord). cond (has_key (Commit id.connector) r) o (committed_record id a)) (alike.last (Task id))
+          ∙ ap (λ (o : Option ConfigRecord). cond (has_key (Commit id.connector) r) (last_of (Task id) b) o) (alike.committed id)
+          ∙ sym (committed-push id b r alike.rises_too above);
     }
 
 pub alike-append : (a b more : List ConfigRecord) → Alike a b → AreAccepted b more → Alike (a ++ more) (b ++ more)
@@ -45,7 +45,7 @@ alike-append a b [] alike accepted =
 alike-append a b (r ∷ more) alike accepted =
     subst (λ (l : List ConfigRecord). Alike l (b ++ r ∷ more)) (append_assoc a (r ∷ []) more)
     (subst (λ (l : List ConfigRecord). Alike ((a ++ r ∷ []) ++ more) l) (append_assoc b (r ∷ []) more)
-      (alike-append (a ++ r ∷ []) (b ++ r ∷ []) more (alike-push a b r alike (above_all b r accepted.0)) accepted.1))
+    (alike-append (a ++ r ∷ []) (b ++ r ∷ []) more (alike-push a b r alike (above_all b r accepted.0)) accepted.1))
 
 module _ (a b : List ConfigRecord) (alike : Alike a b) where
   same_generation : (name : List ℕ) → generation_of name a ≡ generation_of name b
@@ -69,8 +69,8 @@ module _ (a b : List ConfigRecord) (alike : Alike a b) where
   same_fenced name =
       ap is_some
       (last_behind (has_key (Fencing name)) (generation_of name a) 0 a alike.rises
-        ∙ same_behind (Fencing name) name
-        ∙ sym (last_behind (has_key (Fencing name)) (generation_of name b) 0 b alike.rises_too))
+      ∙ same_behind (Fencing name) name
+      ∙ sym (last_behind (has_key (Fencing name)) (generation_of name b) 0 b alike.rises_too))
 
   pub says_the_same : SaysTheSame a b
   says_the_same = record {
@@ -81,10 +81,10 @@ module _ (a b : List ConfigRecord) (alike : Alike a b) where
     task_count = same_count;
     fenced_count = λ name. ap (λ (o : Option ConfigRecord). unwrap_or (option_and_then count_in (value_of o)) 0) (alike.last (Fencing name));
     task = λ id.
-      ap (λ (n : ℕ). cond (nat_lt id.index n) (option_and_then properties_in (value_of (committed_record id a))) None) (same_count id.connector)
-      ∙ ap (λ (o : Option ConfigRecord). cond (nat_lt id.index (task_count_of id.connector b)) (option_and_then properties_in (value_of o)) None) (alike.committed id);
+        ap (λ (n : ℕ). cond (nat_lt id.index n) (option_and_then properties_in (value_of (committed_record id a))) None) (same_count id.connector)
+        ∙ ap (λ (o : Option ConfigRecord). cond (nat_lt id.index (task_count_of id.connector b)) (option_and_then properties_in (value_of o)) None) (alike.committed id);
     deferred = λ id. ap (λ (o : Option ConfigRecord). option_and_then properties_in (value_of o)) (same_deferred id);
     pending = λ name.
-      ap (λ (g : Option ℕ). is_some g && not (is_fenced name a)) (same_generation name)
-      ∙ ap (λ (f : Bool). is_some (generation_of name b) && not f) (same_fenced name);
+        ap (λ (g : Option ℕ). is_some g && not (is_fenced name a)) (same_generation name)
+        ∙ ap (λ (f : Bool). is_some (generation_of name b) && not f) (same_fenced name);
   }

@@ -68,7 +68,7 @@ last_passes test passes [] all = refl
 last_passes test passes (x ∷ records) all =
     last_where-cons (λ r. test r && passes r) x records
     ∙ joined_test (last_where test records) (last_where (λ r. test r && passes r) records) (test x) (passes x) x passes refl (last_passes test passes records)
-      (subst (λ (o : Option ConfigRecord). IfSome o (λ y. passes y ≡ true)) (last_where-cons test x records) all)
+    (subst (λ (o : Option ConfigRecord). IfSome o (λ y. passes y ≡ true)) (last_where-cons test x records) all)
     ∙ sym (last_where-cons test x records)
 
 -- ---- one offset, one record
@@ -94,8 +94,8 @@ found_apart s t low [] rises = tt
 found_apart s t low (x ∷ records) rises =
     subst (λ (o : Option ConfigRecord). Apart o (last_where t (x ∷ records))) (sym (last_where-cons s x records))
     (subst (λ (o : Option ConfigRecord). Apart (option_or (last_where s records) (cond (s x) (Some x) None)) o) (sym (last_where-cons t x records))
-      (two_found x (ends (x.offset + 1) records) (last_where s records) (last_where t records) (found_within s (x.offset + 1) records rises.1) (found_within t (x.offset + 1) records rises.1)
-        (found_apart s t (x.offset + 1) records rises.1) (s x) (t x)))
+    (two_found x (ends (x.offset + 1) records) (last_where s records) (last_where t records) (found_within s (x.offset + 1) records rises.1) (found_within t (x.offset + 1) records rises.1)
+    (found_apart s t (x.offset + 1) records rises.1) (s x) (t x)))
 
 -- ---- what is committed
 
@@ -112,16 +112,16 @@ all_before id None q waits one task commit = tt
 all_before id (Some y) None waits one task commit = cc
 all_before id (Some y) (Some r) waits one task commit =
     below_or_at y r waits (λ (e : y.offset ≡ r.offset).
-      let same : has_key (Task id) y ≡ has_key (Task id) r = ap (has_key (Task id)) (one e) in
-      let not_task : has_key (Task id) r ≡ false = apart r.key id commit in
-      cc (same, not_task, task))
+    let same : has_key (Task id) y ≡ has_key (Task id) r = ap (has_key (Task id)) (one e) in
+    let not_task : has_key (Task id) r ≡ false = apart r.key id commit in
+    cc (same, not_task, task))
 
 pub committed_clean : (id : TaskId) (records : List ConfigRecord) → RisesFrom 0 records → NoneWaits id records → committed_record id records ≡ last_of (Task id) records
 committed_clean id records rises none =
     last_passes (has_key (Task id)) (is_before (generation_of id.connector records)) records
     (all_before id (last_of (Task id) records) (last_of (Commit id.connector) records) none
-      (found_apart (has_key (Task id)) (has_key (Commit id.connector)) 0 records rises)
-      (found_test (has_key (Task id)) records) (found_test (has_key (Commit id.connector)) records))
+    (found_apart (has_key (Task id)) (has_key (Commit id.connector)) 0 records rises)
+    (found_test (has_key (Task id)) records) (found_test (has_key (Commit id.connector)) records))
 
 -- ---- a clean list
 
@@ -146,10 +146,11 @@ module _ (records : List ConfigRecord) where
       → AllByRecursion (λ r. has_key (Task id) r ≡ true → is_behind (generation_of id.connector records) r ≡ false) l
   each_waits id [] e = tt
   each_waits id (r ∷ l) e =
-      let two : (is_waiting records r ≡ false) × (list_any (is_waiting records) l ≡ false) = neither (is_waiting records r) (list_any (is_waiting records) l) e in
-      (λ (is : has_key (Task id) r ≡ true).
-        sym (ap (λ (o : Option (List ℕ)). option_map_or (λ name. is_behind (generation_of name records) r) o false) (task_key r.key id is)) ∙ two.0,
-        each_waits id l two.1)
+      let two : (is_waiting records r ≡ false) × (list_any (is_waiting records) l ≡ false) = neither (is_waiting records r) (list_any (is_waiting records) l) e in (
+        λ (is : has_key (Task id) r ≡ true).
+            sym (ap (λ (o : Option (List ℕ)). option_map_or (λ name. is_behind (generation_of name records) r) o false) (task_key r.key id is)) ∙ two.0,
+        each_waits id l two.1,
+      )
     where
       neither : (a b : Bool) → (a || b) ≡ false → (a ≡ false) × (b ≡ false)
       neither true b e = cc

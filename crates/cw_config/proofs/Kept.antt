@@ -123,12 +123,12 @@ some_last test x respects is passes [] all e = cc
 some_last test x respects is passes (y ∷ xs) all e =
     ap is_some (last_where-cons test (read y) (map read xs))
     ∙ ⊎_elim
-      (λ (here : bytes_eq y.key x.key ≡ true).
-        some_second (last_where test (map read xs)) (cond (test (read y)) (Some (read y)) None)
-        (ap (λ (b : Bool). is_some (cond b (Some (read y)) None)) (respects x y is all.0 here passes)))
-      (λ (later : repeats x.key xs ≡ true).
-        some_first (last_where test (map read xs)) (cond (test (read y)) (Some (read y)) None) (some_last test x respects is passes xs all.1 later))
-      (either (bytes_eq y.key x.key) (repeats x.key xs) e)
+    (λ (here : bytes_eq y.key x.key ≡ true).
+    some_second (last_where test (map read xs)) (cond (test (read y)) (Some (read y)) None)
+    (ap (λ (b : Bool). is_some (cond b (Some (read y)) None)) (respects x y is all.0 here passes)))
+    (λ (later : repeats x.key xs ≡ true).
+    some_first (last_where test (map read xs)) (cond (test (read y)) (Some (read y)) None) (some_last test x respects is passes xs all.1 later))
+    (either (bytes_eq y.key x.key) (repeats x.key xs) e)
 
 covered : (t : Bool) (r : ConfigRecord) (o : Option ConfigRecord) → (t ≡ true → is_some o ≡ true) → option_or o (cond t (Some r) None) ≡ o
 covered true r None w = let e : is_some {T = ConfigRecord} None ≡ true = w refl in cc
@@ -151,7 +151,7 @@ last_kept test respects [] all = refl
 last_kept test respects (x ∷ xs) all =
     ap (last_where test) (map-cond (repeats x.key xs) x (keep_last xs))
     ∙ dropped_or_not (repeats x.key xs) test (read x) (map read (keep_last xs)) (map read xs) (last_kept test respects xs all.1)
-      (λ (again : repeats x.key xs ≡ true) (passes : test (read x) ≡ true). some_last test x respects all.0 passes xs all.1 again)
+    (λ (again : repeats x.key xs ≡ true) (passes : test (read x) ≡ true). some_last test x respects all.0 passes xs all.1 again)
 
 -- ---- offsets
 
@@ -267,10 +267,10 @@ module _ (xs : List Applied) (all : AreRead xs) (rises : RisesFrom 0 (map read x
   none_waits_there id =
       unstripped (last_of (Task id) (map read xs)) (last_of (Commit id.connector) (map read xs))
       (subst (λ (q : Option ConfigRecord). IfSome (option_map strip (last_of (Task id) (map read xs))) (λ y. is_behind (option_map (λ r. r.offset) q) y ≡ false))
-        (last_stripped (has_key (Commit id.connector)) (λ r. refl) xs)
-        (subst (λ (o : Option ConfigRecord). IfSome o (λ y. is_behind (generation_of id.connector (map (λ a. strip (read a)) xs)) y ≡ false))
-          (last_stripped (has_key (Task id)) (λ r. refl) xs)
-          (none_waits (map (λ a. strip (read a)) xs) clean id)))
+      (last_stripped (has_key (Commit id.connector)) (λ r. refl) xs)
+      (subst (λ (o : Option ConfigRecord). IfSome o (λ y. is_behind (generation_of id.connector (map (λ a. strip (read a)) xs)) y ≡ false))
+      (last_stripped (has_key (Task id)) (λ r. refl) xs)
+      (none_waits (map (λ a. strip (read a)) xs) clean id)))
 
   same_last : (key : ConfigKey) → last_of key (map read (keep_last xs)) ≡ last_of key (map read xs)
   same_last key = last_kept (has_key key) (respects_key key) xs all
@@ -290,8 +290,8 @@ module _ (xs : List Applied) (all : AreRead xs) (rises : RisesFrom 0 (map read x
         ∙ sym (ends_by_last 0 (map read xs) rises);
     last = same_last;
     committed = λ id.
-      committed_clean id (map read (keep_last xs)) (rises_kept 0 xs rises) (none_waits_kept id) ∙ same_last (Task id)
-      ∙ sym (committed_clean id (map read xs) rises (none_waits_there id));
+        committed_clean id (map read (keep_last xs)) (rises_kept 0 xs rises) (none_waits_kept id) ∙ same_last (Task id)
+        ∙ sym (committed_clean id (map read xs) rises (none_waits_there id));
   }
 
 -- ---- all together
@@ -348,9 +348,9 @@ module _ (xs : List Applied) (all : AreRead xs) (accepted : AreAccepted [] (filt
   same_behind : SaysTheSameBehind (filter_map config_in (filter (config_stays front) xs)) (filter_map config_in xs)
   same_behind = subst (λ (l : List ConfigRecord). SaysTheSameBehind l (filter_map config_in xs)) (sym left)
       (subst (λ (l : List ConfigRecord). SaysTheSameBehind (map read (keep_last front) ++ map read back) l) (sym whole)
-        (λ (more : List ConfigRecord) (further : AreAccepted (map read front ++ map read back) more).
-          says_the_same ((map read (keep_last front) ++ map read back) ++ more) ((map read front ++ map read back) ++ more)
-          (alike-append (map read (keep_last front) ++ map read back) (map read front ++ map read back) more alike further)))
+      (λ (more : List ConfigRecord) (further : AreAccepted (map read front ++ map read back) more).
+      says_the_same ((map read (keep_last front) ++ map read back) ++ more) ((map read front ++ map read back) ++ more)
+      (alike-append (map read (keep_last front) ++ map read back) (map read front ++ map read back) more alike further)))
 
 pub compacted : (frames : List (List Applied)) → AreConfigs frames → AreAccepted [] (configs_in frames) → SaysTheSameBehind (configs_in (compact_configs frames)) (configs_in frames)
 compacted frames all accepted =

@@ -49,9 +49,9 @@ pub none_more : (records : List ConfigRecord) (names : List (Bor (List ℕ))) (n
     → filter (configured records) (map deref names) ≡ filter (configured records) (map deref (names ++ name ∷ []))
 none_more records names name fails =
     sym (ap (filter (configured records)) (map-append deref names (name ∷ []))
-      ∙ filter-append (configured records) (map deref names) (name.now ∷ [])
-      ∙ ap (λ (b : Bool). filter (configured records) (map deref names) ++ cond b (name.now ∷ []) []) fails
-      ∙ append-nil (filter (configured records) (map deref names)))
+    ∙ filter-append (configured records) (map deref names) (name.now ∷ [])
+    ∙ ap (λ (b : Bool). filter (configured records) (map deref names) ++ cond b (name.now ∷ []) []) fails
+    ∙ append-nil (filter (configured records) (map deref names)))
 
 module _ (tables : Tables) (records : List ConfigRecord) (kept : Keeps tables records) where
   among : (name : List ℕ) → list_any (eq_by_cmp name_cmp name) (filter (configured records) (keys tables.connectors)) ≡ configured records name
@@ -67,7 +67,7 @@ module _ (tables : Tables) (records : List ConfigRecord) (kept : Keeps tables re
     rising = IsStrictlySortedBy-filter name_cmp (configured records) (keys tables.connectors) ordered;
     each = λ name. (
       λ (within : Contains (filter (configured records) (keys tables.connectors)) name).
-        sym (among name) ∙ list_any-from_Contains (eq_by_cmp_equiv nat_list_cmp_total) name (filter (configured records) (keys tables.connectors)) within,
+          sym (among name) ∙ list_any-from_Contains (eq_by_cmp_equiv nat_list_cmp_total) name (filter (configured records) (keys tables.connectors)) within,
       λ is. Contains-from_any same_names name (filter (configured records) (keys tables.connectors)) (among name ∙ is),
     );
   })

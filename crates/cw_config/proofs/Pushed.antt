@@ -49,7 +49,7 @@ module _ (id : TaskId) (records : List ConfigRecord) (r : ConfigRecord) (rises :
   pushed false =
       last_where-push (λ q. has_key (Task id) q && is_before (generation_of id.connector records) q) records r
       ∙ dropped (has_key (Task id) r) (is_before (generation_of id.connector records) r) (Some r) (committed_record id records)
-        (none_before (last_of (Commit id.connector) records) (end_of records) r (found_within (has_key (Commit id.connector)) 0 records rises) above)
+      (none_before (last_of (Commit id.connector) records) (end_of records) r (found_within (has_key (Commit id.connector)) 0 records rises) above)
 
   -- what is committed of a task behind one more record: all that there is, where that is its commit
   pub committed-push : committed_record id (records ++ r ∷ []) ≡ cond (has_key (Commit id.connector) r) (last_of (Task id) records) (committed_record id records)
@@ -139,7 +139,7 @@ keeps-push old new records r kept follows puts =
       targets = λ name. puts.targets name ∙ ap (puts_row (Target name) r) (kept.targets name) ∙ stored-push (Target name) records r;
       fences = λ name. puts.fences name ∙ ap (puts_row (Fencing name) r) (kept.fences name) ∙ stored-push (Fencing name) records r;
       tasks = λ id.
-        let told : generation_at old id.connector ≡ generation_of id.connector records = ap offset_in (kept.commits id.connector) ∙ offset_in-stored (last_of (Commit id.connector) records) in
-        task_pushed id records r (task_at old.tasks id) kept.rises above (kept.tasks id) (task_at new.tasks id)
-        (puts.tasks id ∙ ap (λ (g : Option ℕ). puts_task g id r (task_at old.tasks id)) told);
+          let told : generation_at old id.connector ≡ generation_of id.connector records = ap offset_in (kept.commits id.connector) ∙ offset_in-stored (last_of (Commit id.connector) records) in
+          task_pushed id records r (task_at old.tasks id) kept.rises above (kept.tasks id) (task_at new.tasks id)
+          (puts.tasks id ∙ ap (λ (g : Option ℕ). puts_task g id r (task_at old.tasks id)) told);
     }

@@ -131,9 +131,9 @@ module _ (r : ConfigRecord) (old : Tables) where
       targets = λ q. by_key (Target q) (Task id) is (named_at old.targets q);
       fences = λ q. by_key (Fencing q) (Task id) is (named_at old.fences q);
       tasks = λ q.
-        row-cond (is_at (task_order id) q) (get task_order now q) (get task_order old.tasks q) filled_row (filled q)
-        ∙ ap (λ (b : Bool). cond b (Some filled_row) (task_at old.tasks q)) (task_is id q)
-        ∙ cond_agrees (same_task id q) (Some filled_row) (Some (row_of q)) (task_at old.tasks q)
+          row-cond (is_at (task_order id) q) (get task_order now q) (get task_order old.tasks q) filled_row (filled q)
+          ∙ ap (λ (b : Bool). cond b (Some filled_row) (task_at old.tasks q)) (task_is id q)
+          ∙ cond_agrees (same_task id q) (Some filled_row) (Some (row_of q)) (task_at old.tasks q)
           (λ (same : same_task id q ≡ true). ap (λ (g : Option ℕ). Some (row_behind g (task_at old.tasks id) (stored_of r))) told ∙ ap (λ (t : TaskId). Some (row_of t)) (same_task-tells id q same))
-        ∙ task_by_key q (Task id) is (generation_at old q.connector) (task_at old.tasks q);
+          ∙ task_by_key q (Task id) is (generation_at old q.connector) (task_at old.tasks q);
     }

@@ -61,14 +61,14 @@ found_within test low (r ∷ records) rises =
     let e : ends low (r ∷ records) ≡ ends (r.offset + 1) records = ends-cons low r records rises.0 in
     let here : Within low (ends low (r ∷ records)) r = (first, omega (arith, rest, e)) in
     let weaker : (q : ConfigRecord) → Within (r.offset + 1) (ends (r.offset + 1) records) q → Within low (ends low (r ∷ records)) q =
-      λ (q : ConfigRecord) (w : Within (r.offset + 1) (ends (r.offset + 1) records) q).
-      let above : r.offset + 1 ≤ q.offset = w.0 in
-      let below : q.offset < ends (r.offset + 1) records = w.1 in
-      (omega (arith, first, above), omega (arith, below, e)) in
+    λ (q : ConfigRecord) (w : Within (r.offset + 1) (ends (r.offset + 1) records) q).
+    let above : r.offset + 1 ≤ q.offset = w.0 in
+    let below : q.offset < ends (r.offset + 1) records = w.1 in
+    (omega (arith, first, above), omega (arith, below, e)) in
     subst (λ (o : Option ConfigRecord). IfSome o (Within low (ends low (r ∷ records)))) (sym (last_where-cons test r records))
     (IfSome-or (Within low (ends low (r ∷ records))) (last_where test records) (cond (test r) (Some r) None)
-      (IfSome-weaker (Within (r.offset + 1) (ends (r.offset + 1) records)) (Within low (ends low (r ∷ records))) (last_where test records) weaker (found_within test (r.offset + 1) records rises.1))
-      (IfSome-cond (Within low (ends low (r ∷ records))) (test r) r here))
+    (IfSome-weaker (Within (r.offset + 1) (ends (r.offset + 1) records)) (Within low (ends low (r ∷ records))) (last_where test records) weaker (found_within test (r.offset + 1) records rises.1))
+    (IfSome-cond (Within low (ends low (r ∷ records))) (test r) r here))
 
 -- ---- behind a generation
 

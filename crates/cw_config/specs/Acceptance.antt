@@ -23,7 +23,7 @@ next_of records = if nat_lt (end_of records) (2 ^ 64) then Some (end_of records)
 abbrev pub has_tasks : List ℕ → ℕ → List ConfigRecord → Bool
 has_tasks name count records =
     list_all (λ index. is_some (deferred_record
-        (record { connector = name; index = index }) records)) (range_with_len 0 count)
+    (record { connector = name; index = index }) records)) (range_with_len 0 count)
 
 -- a commit has its tasks; other records need nothing
 abbrev pub is_backed : List ConfigRecord → ConfigKey → Option ConfigValue → Bool

@@ -8,5 +8,4 @@ ghost use Rattle.cw_config.specs.Compaction.{compact_configs, configs_in, AreCon
 pub fn compacted_configs_say_the_same()
     ensures { (frames : List (List Applied)) → AreConfigs frames → AreAccepted [] (configs_in frames) →
         SaysTheSameBehind (configs_in (compact_configs frames)) (configs_in frames) }
-{
-}
+{}

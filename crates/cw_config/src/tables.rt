@@ -180,10 +180,7 @@ fn make_named(table: &mut BTreeMap<Name, Option<Stored>>, name: &Name) -> Result
 }
 
 // A row of a task.
-fn make_task(
-    tasks: &mut BTreeMap<TaskId, Option<TaskRow>>,
-    id: &TaskId,
-) -> Result<(), AllocError>
+fn make_task(tasks: &mut BTreeMap<TaskId, Option<TaskRow>>, id: &TaskId) -> Result<(), AllocError>
     ensures same { (q : TaskId) → task_at tasks.new q ≡ task_at tasks.old q }
     ensures kept { (q : TaskId) → IsSome (get task_order tasks.old q) → IsSome (get task_order tasks.new q) }
     ensures there { OnOk result (IsSome (get task_order tasks.new id.now)) }

@@ -27,7 +27,8 @@ pub(crate) fn outline_of(head: &[u8]) -> Result<Outline, u16>
     ensures lines { IfOk result (λ _. refusal_of_lines head.now ≡ None) }
     ensures outline { IfOk result (IsOutline head.now) }
     ensures fits { IfOk result (FitsHead (length head.now)) }
-    ensures refused { IfErr result (λ code. (rest : List ℕ) → ReadsHead head.now rest (refusal_of_lines head.now) (refused code)) }
+    ensures refused { IfErr result (λ code. (rest : List ℕ)
+        → ReadsHead head.now rest (refusal_of_lines head.now) (refused code)) }
     ensures code { IfErr result IsRefusalCode }
 {
     if let Some(code) = refusal_of_lines(head) {

@@ -4,3 +4,4 @@ pub mod Waits
 pub mod Lasts
 pub mod Kept
 pub mod Done
+pub mod Stays

@@ -1,4 +1,5 @@
--- The bytes of a body of the offset log: 1, a transaction and its records, or 2 and a mark. The format is this project's own.
+-- The bytes of a body of the offset log: 1, a transaction and its records, or 2 and a mark. The format is this
+-- project's own.
 use Rattle.std.specs.Prelude.{ℕ, List, ◌∷◌, ◌++◌}
 use Rattle.std.specs.Bool.{⊤}
 use Rattle.cw_bytes.specs.Spelling.{tag_bytes, mark_bytes, records_bytes, IsTag, IsMark, AreRecords}

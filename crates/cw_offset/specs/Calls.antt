@@ -1,4 +1,5 @@
--- What the committed offsets are to their callers: the list of calls, and calls for which room was made before they are done.
+-- What the committed offsets are to their callers: the list of calls, and calls for which room was made before they
+-- are done.
 use Rattle.std.specs.Prelude.{◌≡◌, List, [], ◌∷◌, ◌++◌, Contains, ◌⊎◌}
 use Rattle.cw_offset.specs.declared.call.OffsetCall.{OffsetCall}
 

@@ -3,3 +3,7 @@ pub mod Calls
 pub mod Tables
 pub mod Body
 pub mod BodyReading
+pub mod Log
+pub mod Acceptance
+pub mod Compaction
+pub mod Replay

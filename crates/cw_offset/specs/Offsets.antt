@@ -1,4 +1,5 @@
--- What is committed of a part (KIP-618): an offset that a task stores waits under its transaction until that is marked, and one that a user sets counts at once.
+-- What is committed of a part (KIP-618): an offset that a task stores waits under its transaction until that is
+-- marked, and one that a user sets counts at once.
 use Rattle.std.specs.Prelude.{ℕ, Bool, false, not, ◌&&◌, ◌||◌, List, [], ◌∷◌, Option, None, Some, if◌then◌else◌}
 use Rattle.std.specs.List.{fold, find, list_any}
 use Rattle.cw_types.specs.Verdict.{has_ended}
@@ -20,7 +21,8 @@ commits tag (Set part to ∷ calls) = commits tag calls
 -- the values of a part's sets and committed puts, in the order in which these were called
 abbrev pub values : PartKey → List OffsetCall → List (Option ℕ)
 values part [] = []
-values part (Put tag other to ∷ calls) = if same_part part other && commits tag calls then Some to ∷ values part calls else values part calls
+values part (Put tag other to ∷ calls) =
+    if same_part part other && commits tag calls then Some to ∷ values part calls else values part calls
 values part (Commit tag ∷ calls) = values part calls
 values part (Abort tag ∷ calls) = values part calls
 values part (Set other to ∷ calls) = if same_part part other then to ∷ values part calls else values part calls

@@ -32,7 +32,8 @@ value_at place to = record { place = place; to = to }
 abbrev pub settled : PartKey → ℕ → List OffsetCall → Option Settled
 settled part place [] = None
 settled part place (Put tag other to ∷ calls) =
-    option_or (settled part (place + 1) calls) (if same_part part other && commits tag calls then Some (value_at place (Some to)) else None)
+    option_or (settled part (place + 1) calls)
+    (if same_part part other && commits tag calls then Some (value_at place (Some to)) else None)
 settled part place (Commit tag ∷ calls) = settled part (place + 1) calls
 settled part place (Abort tag ∷ calls) = settled part (place + 1) calls
 settled part place (Set other to ∷ calls) =
@@ -41,7 +42,8 @@ settled part place (Set other to ∷ calls) =
 -- the places of the puts that wait, for calls from a place on
 abbrev pub waiting_at : ℕ → List OffsetCall → List ℕ
 waiting_at place [] = []
-waiting_at place (Put tag part to ∷ calls) = if list_any (is_mark_of tag) calls then waiting_at (place + 1) calls else place ∷ waiting_at (place + 1) calls
+waiting_at place (Put tag part to ∷ calls) = if list_any (is_mark_of tag) calls then waiting_at (place + 1) calls
+    else place ∷ waiting_at (place + 1) calls
 waiting_at place (Commit tag ∷ calls) = waiting_at (place + 1) calls
 waiting_at place (Abort tag ∷ calls) = waiting_at (place + 1) calls
 waiting_at place (Set part to ∷ calls) = waiting_at (place + 1) calls
@@ -80,7 +82,8 @@ is_behind (Some s) place = nat_lt s.place place
 -- what a part has behind a put at a place that takes effect now
 abbrev pub after_put : PartKey → Tag → ℕ → Option Settled → Option OffsetCall → Option Settled
 after_put part tag place s None = s
-after_put part tag place s (Some (Put other of to)) = if same_tag other tag && (same_part part of && is_behind s place) then Some (value_at place (Some to)) else s
+after_put part tag place s (Some (Put other of to)) =
+    if same_tag other tag && (same_part part of && is_behind s place) then Some (value_at place (Some to)) else s
 after_put part tag place s (Some (Commit other)) = s
 after_put part tag place s (Some (Abort other)) = s
 after_put part tag place s (Some (Set of to)) = s

@@ -61,7 +61,8 @@ fn read_entry(alloc: Global, from: &mut Reader<'_>) -> Result<OffsetEntry, Field
 
 // The entry of a body.
 fn read_body(alloc: Global, body: &[u8]) -> Result<OffsetEntry, BodyFault>
-    ensures { MatchResult result (λ entry. body_at entry_at body.now ≡ Some entry) (λ fault. fault ≢ Memory → body_at entry_at body.now ≡ None) }
+    ensures { MatchResult result (λ entry. body_at entry_at body.now ≡ Some entry) (λ fault. fault ≢ Memory →
+        body_at entry_at body.now ≡ None) }
 {
     let mut from = Reader::new(body);
     match read_entry(alloc, &mut from) {
@@ -84,7 +85,8 @@ pub fn read_offsets(alloc: Global, body: &[u8]) -> Result<OffsetEntry, BodyFault
     // What is read is spelled so, to the last byte.
     ensures found { IfOk result (λ entry. IsEntry entry × (body.now ≡ entry_bytes entry)) }
     // What is spelled so is read.
-    ensures only { (entry : OffsetEntry) → IsEntry entry → body.now ≡ entry_bytes entry → IfOk result (λ read. read ≡ entry) }
+    ensures only { (entry : OffsetEntry) → IsEntry entry → body.now ≡ entry_bytes entry →
+        IfOk result (λ read. read ≡ entry) }
     ensures refused { (entry : OffsetEntry) → IsEntry entry → body.now ≡ entry_bytes entry → result ≢ Err NotBody }
 {
     read_body(alloc, body)

@@ -2,12 +2,14 @@
 //!
 //! Its public contract says that its meaning is the list of calls made so far, that a part's committed offset is
 //! the value of the last of its sets and committed puts, and that a call that was reserved can't want memory;
-//! and that bodies of the offset log are read and written by one exact form.
-//! It stands on the ids of `cw_types`, the fields of `cw_bytes` and the rows of `cw_tables`.
+//! that bodies of the offset log are read and written by one exact form, and that a compacted log is one that opens.
+//! It stands on the ids of `cw_types`, the fields of `cw_bytes`, the rows of `cw_tables`, the keys of `cw_keys` and the
+//! transaction list of `cw_txn`.
 #![tactic(auto)]
 
 mod body;
 mod call;
+mod laws;
 mod state;
 mod tables;
 #[cfg(test)]
@@ -15,4 +17,5 @@ mod tests;
 
 pub use body::{OffsetEntry, read_offsets, write_offsets};
 pub use call::OffsetCall;
+pub use laws::compacted_offsets_are_allowed;
 pub use state::OffsetState;

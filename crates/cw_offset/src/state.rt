@@ -29,7 +29,8 @@ impl Model for OffsetState {
 
     ghost view = { λ a. record { calls = a.calls.items; reserved = a.reserved.items } };
 
-    ghost invariant = { λ a. IsOffsets a.tables a.calls.items a.reserved.items (vec_capacity a.calls) (vec_capacity a.tables.waiting) };
+    ghost invariant = { λ a.
+        IsOffsets a.tables a.calls.items a.reserved.items (vec_capacity a.calls) (vec_capacity a.tables.waiting) };
 }
 
 impl OffsetState {
@@ -102,7 +103,10 @@ impl OffsetState {
 
     /// Makes room for a `put`, so that making it once can't want memory.
     pub fn reserve_put(&mut self, tag: &Tag, part: &PartKey, to: u64) -> Result<(), AllocError>
-        ensures ok { OnOk result (self.new ≡ record self.old { reserved = self.old.reserved ++ OffsetCall.Put tag.now part.now to ∷ [] }) }
+        ensures ok { OnOk result (self.new ≡ record self.old {
+          reserved =
+              self.old.reserved ++ OffsetCall.Put tag.now part.now to ∷ [];
+        }) }
         ensures err { OnErr result (self.new ≡ self.old) }
     {
         self.reserve(&CallRef::Put { tag, part, to })
@@ -110,7 +114,10 @@ impl OffsetState {
 
     /// Makes room for a `commit`, so that making it once can't want memory.
     pub fn reserve_commit(&mut self, tag: &Tag) -> Result<(), AllocError>
-        ensures ok { OnOk result (self.new ≡ record self.old { reserved = self.old.reserved ++ OffsetCall.Commit tag.now ∷ [] }) }
+        ensures ok { OnOk result (self.new ≡ record self.old {
+          reserved =
+              self.old.reserved ++ OffsetCall.Commit tag.now ∷ [];
+        }) }
         ensures err { OnErr result (self.new ≡ self.old) }
     {
         self.reserve(&CallRef::Commit(tag))
@@ -118,7 +125,10 @@ impl OffsetState {
 
     /// Makes room for an `abort`, so that making it once can't want memory.
     pub fn reserve_abort(&mut self, tag: &Tag) -> Result<(), AllocError>
-        ensures ok { OnOk result (self.new ≡ record self.old { reserved = self.old.reserved ++ OffsetCall.Abort tag.now ∷ [] }) }
+        ensures ok { OnOk result (self.new ≡ record self.old {
+          reserved =
+              self.old.reserved ++ OffsetCall.Abort tag.now ∷ [];
+        }) }
         ensures err { OnErr result (self.new ≡ self.old) }
     {
         self.reserve(&CallRef::Abort(tag))
@@ -126,7 +136,10 @@ impl OffsetState {
 
     /// Makes room for a `set`, so that making it once can't want memory.
     pub fn reserve_set(&mut self, part: &PartKey, to: Option<u64>) -> Result<(), AllocError>
-        ensures ok { OnOk result (self.new ≡ record self.old { reserved = self.old.reserved ++ OffsetCall.Set part.now to ∷ [] }) }
+        ensures ok { OnOk result (self.new ≡ record self.old {
+          reserved =
+              self.old.reserved ++ OffsetCall.Set part.now to ∷ [];
+        }) }
         ensures err { OnErr result (self.new ≡ self.old) }
     {
         self.reserve(&CallRef::Set { part, to })
@@ -142,7 +155,10 @@ impl OffsetState {
     ghost use Rattle.cw_offset.specs.Tables.{call_of};
 
     fn reserve(&mut self, call: &CallRef<'_>) -> Result<(), AllocError>
-        ensures ok { OnOk result (self.new ≡ record self.old { reserved = self.old.reserved ++ call_of call.now ∷ [] }) }
+        ensures ok { OnOk result (self.new ≡ record self.old {
+          reserved =
+              self.old.reserved ++ call_of call.now ∷ [];
+        }) }
         ensures err { OnErr result (self.new ≡ self.old) }
     {
         let room = self.reserved.len() + 1;
@@ -173,7 +189,8 @@ ghost use Rattle.cw_offset.specs.Tables.{call_of, settled_at, IsFirstAt, Keeps, 
 
 // The first place of a call in a list.
 fn place_of(calls: &[OffsetCall], call: &CallRef<'_>) -> Option<usize>
-    ensures { MatchOption result (¬ Contains calls.now (call_of call.now)) (λ at. IsFirstAt (call_of call.now) calls.now at) }
+    ensures { MatchOption result (¬ Contains calls.now (call_of call.now))
+        (λ at. IsFirstAt (call_of call.now) calls.now at) }
 {
     for at in 0..calls.len() {
         if call.is(&calls[at]) {

@@ -151,7 +151,8 @@ fn settle_all(
     tag: &Tag,
 )
     requires { HaveRows parts.old calls.now }
-    ensures moved { (part : PartKey) → settled_at parts.new part ≡ fold (after_place part tag.now calls.now) (settled_at parts.old part) waiting.now }
+    ensures moved { (part : PartKey) → settled_at parts.new part
+        ≡ fold (after_place part tag.now calls.now) (settled_at parts.old part) waiting.now }
     ensures kept { (part : PartKey) → HasPart parts.old part → HasPart parts.new part }
 {
     for place in waiting {
@@ -167,7 +168,8 @@ fn settle(
     tag: &Tag,
 )
     requires { HaveRows parts.old calls.now }
-    ensures moved { (part : PartKey) → settled_at parts.new part ≡ after_place part tag.now calls.now (settled_at parts.old part) place }
+    ensures moved { (part : PartKey) → settled_at parts.new part
+        ≡ after_place part tag.now calls.now (settled_at parts.old part) place }
     ensures kept { (part : PartKey) → HasPart parts.old part → HasPart parts.new part }
 {
     match call_at(calls, place) {
@@ -192,7 +194,9 @@ fn settle(
 // A put that takes effect, unless what is settled is behind it.
 fn move_to(parts: &mut BTreeMap<PartKey, Option<Settled>>, part: &PartKey, place: usize, to: u64)
     requires { HasPart parts.old part.now }
-    ensures moved { (q : PartKey) → settled_at parts.new q ≡ (if same_part q part.now && is_behind (settled_at parts.old q) place then Some (value_at place (Some to)) else settled_at parts.old q) }
+    ensures moved { (q : PartKey) → settled_at parts.new q
+        ≡ (if same_part q part.now && is_behind (settled_at parts.old q) place then Some (value_at place (Some to))
+        else settled_at parts.old q) }
     ensures kept { (q : PartKey) → HasPart parts.old q → HasPart parts.new q }
 {
     let was = value_at(parts, part, None);
@@ -207,7 +211,8 @@ fn move_to(parts: &mut BTreeMap<PartKey, Option<Settled>>, part: &PartKey, place
 
 // Takes what waits under a transaction out of what waits.
 fn take_out(waiting: &mut Vec<usize>, calls: &[OffsetCall], tag: &Tag)
-    ensures items { waiting.new.items ≡ filter (λ place. not (is_put_of tag.now (slice_get calls.now place))) waiting.old.items }
+    ensures items { waiting.new.items ≡ filter
+        (λ place. not (is_put_of tag.now (slice_get calls.now place))) waiting.old.items }
     ensures room { vec_capacity waiting.old ≤ vec_capacity waiting.new }
     ensures len { vec_len waiting.new ≤ vec_len waiting.old }
 {
@@ -233,7 +238,8 @@ pub fn first_ended<'a, T: Decided>(
     waiting: &[usize],
     txn: &T,
 ) -> Option<&'a Tag>
-    ensures { option_copied result ≡ find (λ tag. has_ended (T.verdict_of txn.now tag)) (filter_map (λ place. tag_in (slice_get calls.now place)) waiting.now) }
+    ensures { option_copied result ≡ find (λ tag. has_ended (T.verdict_of txn.now tag)) (filter_map
+        (λ place. tag_in (slice_get calls.now place)) waiting.now) }
 {
     for place in waiting {
         if let Some(tag) = ended_at(calls, *place, txn) {

@@ -14,8 +14,9 @@ fn sink_props(rt: &HostRuntime) -> Result<Props, Fail> {
 fn tasks_of_a_config_are_read_and_copied(rt: HostRuntime) -> Result<(), Fail> {
     let connector = Name::read(rt.alloc(), b"a")?;
     let props = sink_props(&rt)?;
-    assert!(rt; check_config(rt.alloc(), &props, &[])? == Class::FileStreamSink);
+    let class = check_config(rt.alloc(), &props, &[])?;
     let configs = task_configs(rt.alloc(), &props)?;
+    assert!(rt; class == Class::FileStreamSink);
     assert_eq!(rt; configs.len(), 2);
     for config in &configs {
         let task = task_of(rt.alloc(), &connector, config)?.ok_or("a task")?;

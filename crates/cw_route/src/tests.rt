@@ -1,6 +1,4 @@
-//! Requests with their calls, from a table of an outside model, with ample memory.
-mod tables;
-
+//! Requests of any bytes with their calls, with ample memory.
 use crate::{Call, RouteFault, route};
 use cw_types::{Listed, Name, TaskId};
 use std::test::Fail;
@@ -73,24 +71,6 @@ fn answer(rt: &HostRuntime, method: &[u8], target: &[u8], body: &[u8]) -> Result
         Ok(call) => call_text(rt, &call),
         Err(fault) => Ok(fault_name(fault)?.to_vec(rt.alloc())?),
     }
-}
-
-#[test]
-fn requests_are_the_calls_of_the_table(rt: HostRuntime) -> Result<(), Fail> {
-    let mut count = 0u32;
-    for line in tables::ROUTES.lines() {
-        let Some((request, wanted)) = line.split_once(" => ") else {
-            return Err("a line of the table".into());
-        };
-        let Some((method, target)) = request.split_once(" | ") else {
-            return Err("a request of the table".into());
-        };
-        let found = answer(&rt, method.as_bytes(), target.as_bytes(), b"{\"x\":1}")?;
-        assert_eq!(rt; found.as_slice(), wanted.as_bytes(), "{method} {target}");
-        count = count.saturating_add(1);
-    }
-    assert_eq!(rt; count, 106);
-    Ok(())
 }
 
 #[test]

@@ -73,12 +73,12 @@ module _ (item : Item) where
   replaced x is of (y ∷ xs) all e s t =
       ap (fold (after_record item) s) (read-cons y xs all.0)
       ∙ ⊎_elim
-        (λ (here : bytes_eq y.key x.key ≡ true).
-          let one : is_item (read y).item item ≡ true = ap (λ (i : Item). is_item i item) (same_item x y is all.0 here) ∙ of in
-          ap (λ (b : Bool). fold (after_record item) (cond b (Some (read y).value) s) (filter_map record_in xs)) one
-          ∙ sym (ap (λ (b : Bool). fold (after_record item) (cond b (Some (read y).value) t) (filter_map record_in xs)) one))
-        (λ (later : repeats x.key xs ≡ true). replaced x is of xs all.1 later (after_record item s (read y)) (after_record item t (read y)))
-        (either (bytes_eq y.key x.key) (repeats x.key xs) e)
+      (λ (here : bytes_eq y.key x.key ≡ true).
+      let one : is_item (read y).item item ≡ true = ap (λ (i : Item). is_item i item) (same_item x y is all.0 here) ∙ of in
+      ap (λ (b : Bool). fold (after_record item) (cond b (Some (read y).value) s) (filter_map record_in xs)) one
+      ∙ sym (ap (λ (b : Bool). fold (after_record item) (cond b (Some (read y).value) t) (filter_map record_in xs)) one))
+      (λ (later : repeats x.key xs ≡ true). replaced x is of xs all.1 later (after_record item s (read y)) (after_record item t (read y)))
+      (either (bytes_eq y.key x.key) (repeats x.key xs) e)
       ∙ sym (ap (fold (after_record item) t) (read-cons y xs all.0))
 
   -- a record that comes again may go
@@ -101,8 +101,8 @@ module _ (item : Item) where
   latest_kept (x ∷ xs) all s =
       dropped_or_not (repeats x.key xs) x (keep_last xs) xs s all.0 (latest_kept xs all.1)
       (λ (again : repeats x.key xs ≡ true).
-        passed (is_item (read x).item item) s (read x).value (filter_map record_in xs)
-        (λ (of : is_item (read x).item item ≡ true). replaced x all.0 of xs all.1 again s (Some (read x).value)))
+      passed (is_item (read x).item item) s (read x).value (filter_map record_in xs)
+      (λ (of : is_item (read x).item item ≡ true). replaced x all.0 of xs all.1 again s (Some (read x).value)))
 
 -- ---- what is allowed rises, and is read
 

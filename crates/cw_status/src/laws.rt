@@ -7,5 +7,4 @@ ghost use Rattle.cw_status.specs.Compaction.{compact_statuses, records_in, AreAl
 pub fn compacted_statuses_say_the_same()
     ensures { (frames : List (List Applied)) → AreAllowedStatuses frames →
         SaysTheSame (records_in (compact_statuses frames)) (records_in frames) }
-{
-}
+{}

@@ -85,8 +85,10 @@ impl StatusState {
         item: &Item,
         value: &StatusValue,
     ) -> Result<(), AllocError>
-        ensures ok { OnOk result (self.new ≡ record self.old { reserved =
-            self.old.reserved ++ record { offset = offset; item = item.now; value = value.now } ∷ [] }) }
+        ensures ok { OnOk result (self.new ≡ record self.old {
+          reserved =
+              self.old.reserved ++ record { offset = offset; item = item.now; value = value.now } ∷ [];
+        }) }
         ensures err { OnErr result (self.new ≡ self.old) }
     {
         make_row(&mut self.latest, item)?;

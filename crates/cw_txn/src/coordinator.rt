@@ -336,7 +336,7 @@ ghost use Rattle.cw_types.specs.declared.ids.Epoch.{Epoch};
 ghost use Rattle.cw_txn.specs.declared.entry.SetOffset.{SetOffset};
 ghost use Rattle.cw_txn.specs.Tables.{entry_of, IsFirstAt, Keeps, HasRows, KeepsRows, SameRows, IsCoordinator};
 
-// Whether no part is in two of the spans.
+/// Whether no part is in two of the spans.
 pub fn have_distinct_parts(spans: &[Span]) -> bool
     ensures { IsTrue result ↔ IsDistinct same_part (map (λ span. span.part) spans.now) }
 {
@@ -406,7 +406,7 @@ fn settle(tables: &mut Tables, entries: &mut Past<Entry>, count: &mut u64, entry
     *count += 1;
 }
 
-// The coordinator of entries whose tables these are.
+/// The coordinator of entries whose tables these are.
 pub fn coordinator_of(
     alloc: Global,
     tables: Tables,

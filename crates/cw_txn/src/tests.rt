@@ -9,26 +9,18 @@ const BUMP: &[u8] = b"\x00\x00\x00\x01\x01\x03\x00\x00\x00\x00";
 
 // The body of that producer's first commit, of a span of part 0.
 fn commit_body(alloc: Global, number: u64, from: u64, to: u64) -> Result<Vec<u8>, AllocError> {
-    let mut spans = Vec::new(alloc);
-    spans.push(Span {
-        part: PartKey::Raw(0),
-        from,
-        to,
-    })?;
-    let tag = Tag {
-        tid: Tid::Raw(0),
-        epoch: Epoch(1),
-        number,
+    let part = PartKey::Raw(0);
+    let spans = vec![in alloc; Span { part, from, to }]?;
+    let commit = Entry::Commit {
+        tag: Tag {
+            tid: Tid::Raw(0),
+            epoch: Epoch(1),
+            number,
+        },
+        generation: 0,
+        spans: Listed::new(spans),
     };
-    let spans = Listed::new(spans);
-    write_entries(
-        alloc,
-        &[Entry::Commit {
-            tag,
-            generation: 0,
-            spans,
-        }],
-    )
+    write_entries(alloc, &[commit])
 }
 
 #[test]

@@ -9,20 +9,20 @@ use Rattle.connect.proofs.drive.turn.Goals as goal
 pub returns-clause-go : goal.returns-clause-go
 returns-clause-go g c =
     on_after c.first_of.result (PlaysPiece c.args.piece.now c.args.session.now c.tell-told.new.session (g.O.Sink.held c.args.output.now) (g.O.Sink.held c.tell-told.new.output)) (λ is.
-    fed_on g.D.Disk.may_leave g.D.Disk.count (Rose (g.O.Sink.faults c.args.output.now) (g.O.Sink.faults c.tell-told.new.output)) c.args.session.now c.feed-fed.new.self (g.O.Sink.held c.args.output.now) (g.O.Sink.held c.tell-told.new.output)
+    fed_on (Rose (g.O.Sink.faults c.args.output.now) (g.O.Sink.faults c.tell-told.new.output)) c.args.session.now c.feed-fed.new.self (g.O.Sink.held c.args.output.now) (g.O.Sink.held c.tell-told.new.output)
     c.args.piece.now c.tell-told.new.session c.feed-fed.result c.tell-told.result c.feed-fed.ensures.go c.tell-told.ensures.written c.tell-told.ensures.silent (sym c.first_of.ensures ∙ is))
 
 pub returns-clause-stop : goal.returns-clause-stop
 returns-clause-stop g c =
-    if_after c.first_of.result (λ status. EndsInPiece g.D.Disk.may_leave g.D.Disk.count (Rose (g.O.Sink.faults c.args.output.now) (g.O.Sink.faults c.tell-told.new.output)) status c.args.piece.now c.args.session.now c.tell-told.new.session.player.kept (g.O.Sink.held c.args.output.now) (g.O.Sink.held c.tell-told.new.output)) (λ status is.
-    subst (λ (k : Kept g.row.D.Denot). EndsInPiece g.D.Disk.may_leave g.D.Disk.count (Rose (g.O.Sink.faults c.args.output.now) (g.O.Sink.faults c.tell-told.new.output)) status c.args.piece.now c.args.session.now k (g.O.Sink.held c.args.output.now) (g.O.Sink.held c.tell-told.new.output))
+    if_after c.first_of.result (λ status. EndsInPiece (Rose (g.O.Sink.faults c.args.output.now) (g.O.Sink.faults c.tell-told.new.output)) status c.args.piece.now c.args.session.now c.tell-told.new.session.player.kept (g.O.Sink.held c.args.output.now) (g.O.Sink.held c.tell-told.new.output)) (λ status is.
+    subst (λ (k : Kept g.row.D.Denot). EndsInPiece (Rose (g.O.Sink.faults c.args.output.now) (g.O.Sink.faults c.tell-told.new.output)) status c.args.piece.now c.args.session.now k (g.O.Sink.held c.args.output.now) (g.O.Sink.held c.tell-told.new.output))
     (sym (tell_kept c.tell-told.result c.feed-fed.new.self c.tell-told.new.session c.tell-told.ensures.silent c.tell-told.ensures.kept))
-    (fed_then g.D.Disk.may_leave g.D.Disk.count (Rose (g.O.Sink.faults c.args.output.now) (g.O.Sink.faults c.tell-told.new.output)) c.args.session.now c.feed-fed.new.self (g.O.Sink.held c.args.output.now) (g.O.Sink.held c.tell-told.new.output)
+    (fed_then (Rose (g.O.Sink.faults c.args.output.now) (g.O.Sink.faults c.tell-told.new.output)) c.args.session.now c.feed-fed.new.self (g.O.Sink.held c.args.output.now) (g.O.Sink.held c.tell-told.new.output)
     c.args.piece.now c.feed-fed.result c.tell-told.result c.feed-fed.ensures.go c.feed-fed.ensures.stop c.tell-told.ensures.written c.tell-told.ensures.in_part c.tell-told.ensures.rose c.tell-told.ensures.fault status (sym c.first_of.ensures ∙ is)))
 
 pub returns-clause-moves : goal.returns-clause-moves
 returns-clause-moves g c =
-    subst (λ (k : Kept g.row.D.Denot). Moves g.D.Disk.moment g.D.Disk.left_since g.D.Disk.count c.args.piece.now c.args.session.now k) (sym (tell_kept c.tell-told.result c.feed-fed.new.self c.tell-told.new.session c.tell-told.ensures.silent c.tell-told.ensures.kept)) c.feed-fed.ensures.moves
+    subst (λ (k : Kept g.row.D.Denot). Moves c.args.piece.now c.args.session.now k) (sym (tell_kept c.tell-told.result c.feed-fed.new.self c.tell-told.new.session c.tell-told.ensures.silent c.tell-told.ensures.kept)) c.feed-fed.ensures.moves
 
 pub returns-clause-less : goal.returns-clause-less
 returns-clause-less g c =

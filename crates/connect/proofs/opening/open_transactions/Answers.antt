@@ -1,6 +1,6 @@
 use Rattle.std.proofs.Common.{◌≡◌, ◌∙◌, inl, inr, List, ℕ, Some, sym, ap, subst, arith}
 use Rattle.cw_types.specs.Faults.{Rose}
-use Rattle.cw_log.specs.Log.{StandsFor, IsDamaged}
+use Rattle.cw_log.specs.Log.{StandsFor, IsDamaged, OpensAs}
 use Rattle.connect.specs.Store.{Kept, IsImage, store_of}
 use Rattle.connect.specs.Harms.{HasBodyHarm, HoldsAlike, IsHarmed}
 use Rattle.connect.specs.Reading.{HasSeen}
@@ -16,7 +16,7 @@ returns-in-Ok-into_coordinator-clause-rest g c file is image left =
     subst (λ (k : Kept g.row.D.Denot). IsImage (store_of k) image) (sym c.of.ensures) (record {
       bodies = t.0;
       stands = subst (λ (kind : ℕ). StandsFor kind t.0 image) c.in-Ok.ensures.new.0 (c.rest.ensures.left c.in-Ok.ensures.new.2 t.0 t.1 image there);
-      hold = c.in-Ok-into_coordinator.ensures.kept.1 t.0 seen;
+      hold = c.in-Ok-into_coordinator.ensures.kept t.0 seen;
       size = c.rest.ensures.size t.0 t.1;
     })
 
@@ -24,7 +24,7 @@ pub returns-in-Ok-into_coordinator-clause-image : goal.returns-in-Ok-into_coordi
 returns-in-Ok-into_coordinator-clause-image g c file is =
     let t = c.in-Ok.ensures.list file is in
     let seen = c.in-Ok.ensures.seen c.new-reading.ensures t.0 t.1 in
-    subst (λ (k : Kept g.row.D.Denot). IsImage (store_of k) file) (sym c.of.ensures) (record { bodies = t.0; stands = t.2; hold = c.in-Ok-into_coordinator.ensures.kept.1 t.0 seen; size = c.rest.ensures.size t.0 t.1 })
+    subst (λ (k : Kept g.row.D.Denot). IsImage (store_of k) file) (sym c.of.ensures) (record { bodies = t.0; stands = t.2; hold = c.in-Ok-into_coordinator.ensures.kept t.0 seen; size = c.rest.ensures.size t.0 t.1 })
 
 pub returns-in-Err-into_coordinator-clause-cause : goal.returns-in-Err-into_coordinator-clause-cause
 returns-in-Err-into_coordinator-clause-cause g c =
@@ -54,3 +54,8 @@ returns-in-Err-clause-cause g c =
     (λ at harm found. (inl (gone ∙ found.0), λ file is. inl (found.1 file is)))
     (λ rose. (omega (arith, rose, ap g.D.Disk.count c.refused-in-Err.ensures.disk), ap g.D.Disk.count (sym c.refused-in-Err.ensures.disk)))
     (λ stays. inl (gone ∙ stays)) c.in-Err.fault.cause c.refused-in-Err.result.cause c.refused-in-Err.ensures.cause c.in-Err.ensures.cause
+
+pub returns-in-Ok-into_coordinator-clause-bytes : goal.returns-in-Ok-into_coordinator-clause-bytes
+returns-in-Ok-into_coordinator-clause-bytes g c file is =
+    let opened = c.in-Ok.ensures.bytes file is in
+    subst (λ (k : Kept g.row.D.Denot). OpensAs 4 k.log.number file (g.D.Disk.holds k.log.disk)) (sym c.of.ensures) opened

@@ -17,11 +17,11 @@ returns-clause-reopens g c = λ store image safe stands at harm harmed. safe_is_
 
 pub returns-clause-damaged : goal.returns-clause-damaged
 returns-clause-damaged g c = λ words file told at harm harmed.
-    refused_for g.D.Disk.holds g.D.Disk.may_leave g.D.Disk.moment g.D.Disk.left_since c.open_and_drive-driven.result.status _ (g.I.Source.left c.args.input.now) (g.I.Source.left c.open_and_drive-driven.new.input) (g.O.Sink.held c.args.output.now) (g.O.Sink.held c.open_and_drive-driven.new.output)
-    _ c.args.disks.txn c.open_and_drive-driven.result.disk c.open_and_drive-driven.ensures.runs c.open_and_drive-driven.ensures.damaged_only file told at harm harmed
+    refused_for g.D.Disk g.I.Source g.O.Sink c.open_and_drive-driven.result.status c.args.input.now c.open_and_drive-driven.new.input c.args.output.now c.open_and_drive-driven.new.output c.args.disks.txn c.open_and_drive-driven.result.disk
+    c.open_and_drive-driven.ensures.runs c.open_and_drive-driven.ensures.damaged_only file told at harm harmed
 
 pub returns-clause-complete : goal.returns-clause-complete
 returns-clause-complete g c = λ words bytes told file holds_it store safe image fine calm_in calm_out calm_disk.
-    done_or_memory g.D.Disk.holds g.D.Disk.may_leave g.D.Disk.moment g.D.Disk.left_since c.open_and_drive-driven.result.status _ (g.I.Source.left c.args.input.now) (g.I.Source.left c.open_and_drive-driven.new.input) (g.O.Sink.held c.args.output.now) (g.O.Sink.held c.open_and_drive-driven.new.output)
-    _ c.args.disks.txn c.open_and_drive-driven.result.disk c.open_and_drive-driven.ensures.runs c.open_and_drive-driven.ensures.damaged_only bytes told file holds_it store safe image fine
+    done_or_memory g.D.Disk g.I.Source g.O.Sink c.open_and_drive-driven.result.status c.args.input.now c.open_and_drive-driven.new.input c.args.output.now c.open_and_drive-driven.new.output c.args.disks.txn c.open_and_drive-driven.result.disk
+    c.open_and_drive-driven.ensures.runs c.open_and_drive-driven.ensures.damaged_only bytes told file holds_it store safe image fine
     (λ is. calm_in (c.open_and_drive-driven.ensures.read_fault is)) (λ is. calm_out (c.open_and_drive-driven.ensures.write_fault is)) (λ name count is. calm_disk ((c.open_and_drive-driven.ensures.store_fault name count is).1.rose))

@@ -39,9 +39,9 @@ returns-in_err-commit-clause-done g c =
     ap (λ (n : ℕ). Commit (record { tid = Raw c.args.id; epoch = record { 0 = c.args.epoch }; number = n }) 0 c.deref-2.result.now) c.length.ensures
     ∙ ap (λ (spans : List Span). Commit (record { tid = Raw c.args.id; epoch = record { 0 = c.args.epoch }; number = length old.entries }) 0 spans) made in
     rw (p.1, p.2)
-    (subst (λ (s : PlayerState g.row.D.Denot). HasStopped g.D.Disk.may_leave g.D.Disk.count status s (record { kept = c.commit.new.self; text = text }) (play_event (store_of s.kept) (done_answer c.args.id c.args.epoch c.args.parts.items (store_of s.kept))))
+    (subst (λ (s : PlayerState g.row.D.Denot). HasStopped g.D.Disk status s (record { kept = c.commit.new.self; text = text }) (play_event (store_of s.kept) (done_answer c.args.id c.args.epoch c.args.parts.items (store_of s.kept))))
     c.self.view_is
-    (subst (λ (e : Entry). HasStopped g.D.Disk.may_leave g.D.Disk.count status (record { kept = old; text = text }) (record { kept = c.commit.new.self; text = text }) (play_event (store_of old) (event e (Committed c.args.parts.items) (store_of old)))) same
-    (event_refused g.D.Disk.moment g.D.Disk.left_since g.D.Disk.may_leave g.D.Disk.count
+    (subst (λ (e : Entry). HasStopped g.D.Disk status (record { kept = old; text = text }) (record { kept = c.commit.new.self; text = text }) (play_event (store_of old) (event e (Committed c.args.parts.items) (store_of old)))) same
+    (event_refused g.D.Disk
     (Commit (record { tid = Raw c.args.id; epoch = record { 0 = c.args.epoch }; number = c.length.result }) 0 c.deref-2.result.now) (Committed c.args.parts.items) old c.commit.new.self (Unit {0}) text c.in_err-commit.field-0.0
     c.in_err-commit.ensures.happens c.in_err-commit.ensures.left)))

@@ -15,7 +15,7 @@ pub returns-in_err-epoch-clause-done : goal.returns-in_err-epoch-clause-done
 returns-in_err-epoch-clause-done g c =
     let p = err_from_is_err_and c.from_residual.result c.from_residual.ensures.1 in
     rw (p.1, p.2)
-    (subst (λ (s : PlayerState g.row.D.Denot). HasStopped g.D.Disk.may_leave g.D.Disk.count (status_of_event c.in_err-epoch.field-0.0) s (record { kept = c.bump.new.self; text = string_bytes c.self.inside.answers }) (play_event (store_of s.kept) (init_answer c.args.id (store_of s.kept))))
+    (subst (λ (s : PlayerState g.row.D.Denot). HasStopped g.D.Disk (status_of_event c.in_err-epoch.field-0.0) s (record { kept = c.bump.new.self; text = string_bytes c.self.inside.answers }) (play_event (store_of s.kept) (init_answer c.args.id (store_of s.kept))))
     c.self.view_is
-    (event_refused g.D.Disk.moment g.D.Disk.left_since g.D.Disk.may_leave g.D.Disk.count (Bump (Raw c.args.id)) (Epoch (epoch_of (Raw c.args.id) c.self.inside.transactions.entries + 1)) c.self.inside.transactions c.bump.new.self (Unit {0}) _ c.in_err-epoch.field-0.0
+    (event_refused g.D.Disk (Bump (Raw c.args.id)) (Epoch (epoch_of (Raw c.args.id) c.self.inside.transactions.entries + 1)) c.self.inside.transactions c.bump.new.self (Unit {0}) _ c.in_err-epoch.field-0.0
     c.in_err-epoch.ensures.happens c.in_err-epoch.ensures.left))

@@ -5,7 +5,7 @@ use Rattle.connect.proofs.session.Session.feed.Given as goal
 
 abbrev pub invariant-loop-line : goal.invariant-loop-line
 invariant-loop-line g l = record {
-  fed : IsFed g.D.Disk.moment g.D.Disk.left_since g.D.Disk.may_leave g.D.Disk.count l.piece l.rest l.fn.self l.self;
+  fed : IsFed l.piece l.rest l.fn.self l.self;
   less : room l.self + length l.piece ≤ room l.fn.self + length l.rest;
 }
 
