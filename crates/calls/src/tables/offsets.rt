@@ -1,0 +1,67 @@
+//! Calls of the offsets.
+
+use crate::answer::Answer;
+use crate::fault::Fault;
+use crate::fields::Fields;
+use crate::states::States;
+use cw_offset::OffsetState;
+use std::alloc::Global;
+
+/// `offsets CALL ..`: a change, or what is committed of a part.
+pub fn call(
+    states: &mut States,
+    fields: &mut Fields<'_>,
+    answer: &mut Answer,
+) -> Result<(), Fault> {
+    let alloc = states.alloc;
+    match fields.word()? {
+        "begin" => states.offsets = OffsetState::new(alloc),
+        "put" => put(alloc, &mut states.offsets, fields)?,
+        "commit" => states.offsets.commit(&fields.tag(alloc)?)?,
+        "abort" => states.offsets.abort(&fields.tag(alloc)?)?,
+        "set" => set(alloc, &mut states.offsets, fields)?,
+        "unreserve" => states.offsets.unreserve(),
+        "committed" => {
+            let part = fields.part(alloc)?;
+            return answer.some_long(states.offsets.committed(&part));
+        }
+        word => reserve(alloc, &mut states.offsets, word, fields)?,
+    }
+    answer.word("ok")
+}
+
+fn reserve(
+    alloc: Global,
+    offsets: &mut OffsetState,
+    word: &str,
+    fields: &mut Fields<'_>,
+) -> Result<(), Fault> {
+    match word {
+        "reserve_put" => {
+            let tag = fields.tag(alloc)?;
+            let part = fields.part(alloc)?;
+            offsets.reserve_put(&tag, &part, fields.long()?)?;
+        }
+        "reserve_commit" => offsets.reserve_commit(&fields.tag(alloc)?)?,
+        "reserve_abort" => offsets.reserve_abort(&fields.tag(alloc)?)?,
+        "reserve_set" => {
+            let part = fields.part(alloc)?;
+            offsets.reserve_set(&part, fields.some_long()?)?;
+        }
+        _ => return Err(Fault::NoCall),
+    }
+    Ok(())
+}
+
+fn put(alloc: Global, offsets: &mut OffsetState, fields: &mut Fields<'_>) -> Result<(), Fault> {
+    let tag = fields.tag(alloc)?;
+    let part = fields.part(alloc)?;
+    let to = fields.long()?;
+    Ok(offsets.put(&tag, &part, to)?)
+}
+
+fn set(alloc: Global, offsets: &mut OffsetState, fields: &mut Fields<'_>) -> Result<(), Fault> {
+    let part = fields.part(alloc)?;
+    let to = fields.some_long()?;
+    Ok(offsets.set(&part, to)?)
+}
