@@ -14,8 +14,8 @@ has_records (Mark mark) is = tt
 
 is_short : (entry : Entry) → IsEntry entry → IsShort entry
 is_short (Bump tid) is = tt
-is_short (Commit tag generation spans) is = is.1.1.0
-is_short (Set tid epoch list) is = is.1.1.0
+is_short (Commit tag generation spans) is = is.2.0
+is_short (Set tid epoch list) is = is.2.0
 
 each_short : (entries : List Entry) → AllByRecursion IsEntry entries → AllByRecursion IsShort entries
 each_short [] all = tt

@@ -1,4 +1,7 @@
 //! Bodies of the logs.
+ghost use Rattle.cw_data.specs.Body.{IsEntry as IsDataEntry};
+ghost use Rattle.cw_offset.specs.Body.{IsEntry as IsOffsetEntry};
+ghost use Rattle.cw_txn.specs.Body.{AreEntries};
 
 use crate::answer::Answer;
 use crate::fault::Fault;
@@ -9,7 +12,7 @@ use cw_data::{Batch, DataEntry, read_data, write_data};
 use cw_offset::{OffsetEntry, read_offsets, write_offsets};
 use cw_txn::{Entry, SetOffset, read_entries, write_entries};
 use cw_types::{Listed, Span, Tag};
-use std::alloc::Global;
+use std::alloc::{AllocError, Global};
 
 /// `body LOG BYTES`: what the body has and how it is written, or `Content` where it has nothing.
 pub fn read(alloc: Global, fields: &mut Fields<'_>, answer: &mut Answer) -> Result<(), Fault> {
@@ -45,10 +48,17 @@ fn offsets(alloc: Global, body: &[u8], answer: &mut Answer) -> Result<(), Fault>
     match read_offsets(alloc, body) {
         Ok(entry) => {
             say_offsets(&entry, answer)?;
-            answer.text(&write_offsets(alloc, &entry)?)
+            answer.text(&offset_body(alloc, &entry)?)
         }
         Err(fault) => say_fault(fault, answer),
     }
+}
+
+// What was read may be written.
+fn offset_body(alloc: Global, entry: &OffsetEntry) -> Result<Vec<u8>, AllocError>
+    requires { IsOffsetEntry entry.now }
+{
+    write_offsets(alloc, entry)
 }
 
 fn say_offsets(entry: &OffsetEntry, answer: &mut Answer) -> Result<(), Fault> {
@@ -72,10 +82,17 @@ fn batches(alloc: Global, body: &[u8], answer: &mut Answer) -> Result<(), Fault>
     match read_data(alloc, body) {
         Ok(entry) => {
             say_data(&entry, answer)?;
-            answer.text(&write_data(alloc, &entry)?)
+            answer.text(&data_body(alloc, &entry)?)
         }
         Err(fault) => say_fault(fault, answer),
     }
+}
+
+// What was read may be written.
+fn data_body(alloc: Global, entry: &DataEntry) -> Result<Vec<u8>, AllocError>
+    requires { IsDataEntry entry.now }
+{
+    write_data(alloc, entry)
 }
 
 fn say_data(entry: &DataEntry, answer: &mut Answer) -> Result<(), Fault> {
@@ -107,11 +124,18 @@ fn transactions(alloc: Global, body: &[u8], answer: &mut Answer) -> Result<(), F
     match read_entries(alloc, body) {
         Ok(entries) => {
             say_entries(&entries, answer)?;
-            answer.text(&write_entries(alloc, &entries)?)
+            answer.text(&entries_body(alloc, &entries)?)
         }
         Err(cw_txn::BodyFault::NotEntries) => answer.word("Content"),
         Err(cw_txn::BodyFault::Memory) => Err(Fault::Memory),
     }
+}
+
+// What was read may be written.
+fn entries_body(alloc: Global, entries: &[Entry]) -> Result<Vec<u8>, AllocError>
+    requires { AreEntries entries.now }
+{
+    write_entries(alloc, entries)
 }
 
 fn say_entries(entries: &[Entry], answer: &mut Answer) -> Result<(), Fault> {
