@@ -55,7 +55,8 @@ pub(crate) fn open_transactions<D: Disk>(
         (image : List ℕ) → D.may_leave kept.log.disk image → IsImage (store_of kept) image) }
 
     // A new log where the file was unmade, else the file up to its first closed gate.
-    ensures bytes { IfOk result (λ kept. Told D.Disk disk (λ file. OpensAs 4 kept.log.number file (D.holds kept.log.disk))) }
+    ensures bytes { IfOk result (λ kept. Told D.Disk disk (λ file.
+        OpensAs 4 kept.log.number file (D.holds kept.log.disk))) }
 
     ensures cause { IfErr result (λ fault. IsRefusedAs D.Disk disk fault.disk fault.cause) }
     ensures left { (file : List ℕ) → D.holds disk ≡ Some file → IfErr result (λ fault. (image : List ℕ) →

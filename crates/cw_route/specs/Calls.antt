@@ -1,4 +1,5 @@
--- Which call of Connect's REST API a request is: the target is a path and a query behind the first `?`; the path decides the page, the method
+-- Which call of Connect's REST API a request is: the target is a path and a query behind the first `?`; the path
+-- decides the page, the method
 -- what is asked of it, and the page's parameters name the connector or the task.
 use Rattle.std.specs.Prelude.{◌≡◌, ◌≢◌, ◌+◌, ℕ, ◌==◌, Bool, true, false, List, [], length, take, drop, Option, Some, None, Result, Ok, Err, MatchResult, position, if◌then◌else◌}
 use Rattle.std.specs.List.{list_all}
@@ -50,7 +51,8 @@ call_for op.Reset params body = of_part Reset (name_in params)
 -- the call of an operation, if the page has the method and there is no query
 abbrev pub call_asked : Option Operation → List (List ℕ × List ℕ) → List ℕ → List ℕ → Result Call RouteFault
 call_asked None params query body = Err NotAllowed
-call_asked (Some operation) params query body = if length query == 0 then call_for operation params body else Err BadQuery
+call_asked (Some operation) params query body = if length query == 0 then call_for operation params body
+    else Err BadQuery
 
 -- the parts of a path that a route's parameters took
 abbrev pub params_of : List ℕ → RouteOf Page → List (List ℕ × List ℕ)
@@ -59,11 +61,13 @@ params_of path route = walk route.pattern route.text path route.names 0 0
 -- the call at the route that a path has
 abbrev pub call_on : List ℕ → List ℕ → List ℕ → List ℕ → Option (RouteOf Page) → Result Call RouteFault
 call_on method path query body None = Err NotFound
-call_on method path query body (Some route) = call_asked (operation route.value method) (params_of path route) query body
+call_on method path query body (Some route) = call_asked (operation route.value method) (params_of path route) query
+    body
 
 -- the call at a path, which holds no byte but `!` to `~`
 abbrev pub call_at : List ℕ → List ℕ → List ℕ → List ℕ → Result Call RouteFault
-call_at method path query body = if list_all is_name_byte path then call_on method path query body (first table path) else Err NotFound
+call_at method path query body = if list_all is_name_byte path
+    then call_on method path query body (first table path) else Err NotFound
 
 -- the bytes before a place, or all
 abbrev pub before : List ℕ → Option ℕ → List ℕ

@@ -11,10 +11,13 @@ only wanted operation method = if bytes_eq method wanted then Some operation els
 
 -- what a method asks for at a page, if the page has it
 abbrev pub operation : Page → List ℕ → Option Operation
-operation Connectors method = if bytes_eq method (codes "GET") then Some op.Connectors else only (codes "POST") op.Create method
+operation Connectors method = if bytes_eq method (codes "GET") then Some op.Connectors
+    else only (codes "POST") op.Create method
 operation Plugins method = only (codes "GET") op.Plugins method
-operation Connector method = if bytes_eq method (codes "GET") then Some op.Info else only (codes "DELETE") op.Delete method
-operation Config method = if bytes_eq method (codes "GET") then Some op.Config else only (codes "PUT") op.PutConfig method
+operation Connector method = if bytes_eq method (codes "GET") then Some op.Info
+    else only (codes "DELETE") op.Delete method
+operation Config method = if bytes_eq method (codes "GET") then Some op.Config
+    else only (codes "PUT") op.PutConfig method
 operation Offsets method =
     if bytes_eq method (codes "GET") then Some op.Offsets else
     if bytes_eq method (codes "PATCH") then Some op.Alter else only (codes "DELETE") op.Reset method

@@ -1,4 +1,5 @@
--- The parts of a path that parameters took. Their escapes (RFC 3986, 2.1) are undone once the path is matched; a `%` without two
+-- The parts of a path that parameters took. Their escapes (RFC 3986, 2.1) are undone once the path is matched; a `%`
+-- without two
 -- hexadecimal digits stands for itself.
 use Rattle.std.specs.Prelude.{◌≡◌, ◌≢◌, ◌-◌, ◌^◌, ℕ, List, [], ◌∷◌, Option, Some, None, Result, MatchResult, IsUtf8}
 use Rattle.percent_encoding.specs.Percent.{percent_decode}
@@ -42,4 +43,5 @@ EachIsText (p ∷ ps) = IsUtf8 p.1 × EachIsText ps
 
 -- what a part is, or BadPath where it is nothing
 abbrev pub GivesPart : {A : Type 0} → Result A RouteFault → Option A → Type 0
-GivesPart result meant = MatchResult result (λ x. meant ≡ Some x) (λ fault. (fault ≢ Memory → fault ≡ BadPath) × (fault ≢ Memory → meant ≡ None))
+GivesPart result meant = MatchResult result (λ x. meant ≡ Some x) (λ fault. (fault ≢ Memory → fault ≡ BadPath) ×
+    (fault ≢ Memory → meant ≡ None))

@@ -1,4 +1,5 @@
--- The paths of Connect's REST API, as patterns with a parameter for the name of a connector and one for the number of a task.
+-- The paths of Connect's REST API, as patterns with a parameter for the name of a connector and one for the number of
+-- a task.
 use Rattle.std.specs.Prelude.{ℕ, List, [], ◌∷◌, ◌++◌, codes}
 use Rattle.matchit.specs.Rows.{RowsOf, param_token}
 use Rattle.matchit.specs.Router.{RouteOf}
@@ -7,7 +8,8 @@ use Rattle.cw_route.specs.declared.page.Page.TheVariants.{Connectors, Plugins, C
 
 -- the table, in the order in which a router keeps it
 abbrev pub pages : List Page
-pages = Plugins ∷ Config ∷ Offsets ∷ Pause ∷ Restart ∷ Resume ∷ Status ∷ Stop ∷ TaskRestart ∷ TaskStatus ∷ Tasks ∷ Connector ∷ Connectors ∷ []
+pages = Plugins ∷ Config ∷ Offsets ∷ Pause ∷ Restart ∷ Resume ∷ Status ∷ Stop ∷ TaskRestart ∷ TaskStatus ∷ Tasks ∷
+    Connector ∷ Connectors ∷ []
 
 -- the pattern of a page, as text
 abbrev pub page_text : Page → List ℕ
@@ -75,7 +77,13 @@ page_names TaskStatus = (13, 17) ∷ (26, 30) ∷ []
 
 -- a page in the table: its pattern has a token in place of each parameter
 abbrev pub page_route : Page → RouteOf Page
-page_route page = record { pattern = page_path page (param_token ∷ []) (param_token ∷ []); text = page_text page; names = page_names page; value = page }
+page_route page = record {
+  pattern = page_path page (param_token ∷ []) (param_token ∷
+      []);
+  text = page_text page;
+  names = page_names page;
+  value = page;
+}
 
 -- the rows of pages
 abbrev pub rows_of : List Page → RowsOf (RouteOf Page)

@@ -49,7 +49,8 @@ fn read_index(alloc: Global, part: &str) -> Result<Option<u32>, AllocError>
 
 // The task that two parts are.
 fn read_task(alloc: Global, name: &str, index: &str) -> Result<Option<TaskId>, AllocError>
-    ensures { IfOk result (λ id. id ≡ task_id (name_of (spec.percent_decode name.now)) (number_of (2 ^ 32 - 1) (spec.percent_decode index.now))) }
+    ensures { IfOk result (λ id. id ≡
+        task_id (name_of (spec.percent_decode name.now)) (number_of (2 ^ 32 - 1) (spec.percent_decode index.now))) }
 {
     let number = read_index(alloc, index)?;
     let Some(connector) = read_name(alloc, name)? else {
@@ -63,8 +64,10 @@ fn read_task(alloc: Global, name: &str, index: &str) -> Result<Option<TaskId>, A
 
 // The name that the first parameter is.
 pub(crate) fn name_in(alloc: Global, params: &Params<'_, '_>) -> Result<Name, RouteFault>
-    requires { EachIsText (walk params.now.pattern.now params.now.text.now params.now.path.now params.now.names.now 0 0) }
-    ensures { GivesPart result (name_in (walk params.now.pattern.now params.now.text.now params.now.path.now params.now.names.now 0 0)) }
+    requires { EachIsText (walk params.now.pattern.now params.now.text.now params.now.path.now params.now.names.now 0
+        0) }
+    ensures { GivesPart result (name_in (walk params.now.pattern.now params.now.text.now params.now.path.now
+        params.now.names.now 0 0)) }
 {
     match params.iter().next() {
         Some((_, part)) => match read_name(alloc, part)? {
@@ -77,8 +80,10 @@ pub(crate) fn name_in(alloc: Global, params: &Params<'_, '_>) -> Result<Name, Ro
 
 // The task that the first two parameters are.
 pub(crate) fn task_in(alloc: Global, params: &Params<'_, '_>) -> Result<TaskId, RouteFault>
-    requires { EachIsText (walk params.now.pattern.now params.now.text.now params.now.path.now params.now.names.now 0 0) }
-    ensures { GivesPart result (task_in (walk params.now.pattern.now params.now.text.now params.now.path.now params.now.names.now 0 0)) }
+    requires { EachIsText (walk params.now.pattern.now params.now.text.now params.now.path.now params.now.names.now 0
+        0) }
+    ensures { GivesPart result (task_in (walk params.now.pattern.now params.now.text.now params.now.path.now
+        params.now.names.now 0 0)) }
 {
     let mut parts = params.iter();
     let Some((_, name)) = parts.next() else {

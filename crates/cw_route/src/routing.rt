@@ -96,8 +96,10 @@ fn call_for(
     params: &Params<'_, '_>,
     body: &[u8],
 ) -> Result<Call, RouteFault>
-    requires { EachIsText (walk params.now.pattern.now params.now.text.now params.now.path.now params.now.names.now 0 0) }
-    ensures { Gives result (call_for operation (walk params.now.pattern.now params.now.text.now params.now.path.now params.now.names.now 0 0) body.now) }
+    requires { EachIsText (walk params.now.pattern.now params.now.text.now params.now.path.now params.now.names.now 0
+        0) }
+    ensures { Gives result (call_for operation (walk params.now.pattern.now params.now.text.now params.now.path.now
+        params.now.names.now 0 0) body.now) }
 {
     match operation {
         Operation::Connectors => Ok(Call::Connectors),
