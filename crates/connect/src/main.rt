@@ -56,7 +56,7 @@ fn words_of<R: Env + AllocGlobal>(rt: &R) -> Result<Vec<String>, Status> {
     let mut words = Vec::new(rt.alloc());
     let all = env::args(rt).map_err(|fault| status_of_fault(fault.kind()))?;
     for word in all.skip(1) {
-        words.push(word)?;
+        words.push(word).map_err(|_| Status::Memory)?;
     }
     Ok(words)
 }
