@@ -1,6 +1,6 @@
 -- Where a head ends: it stays there, whatever bytes follow.
-use Rattle.std.proofs.Common.{◌≡◌, ℕ, ◌+◌, ◌-◌, ◌<◌, ◌≤◌, ◌==◌, suc, Bool, true, false, List, [], ◌∷◌, ◌++◌, length, take, drop, get_or, Option, Some, None, if◌then◌else◌, min, unwrap_or, ⊎_elim, refl, sym, ap, ◌∙◌, subst, arith, length-drop, length-take}
-use Rattle.std.proofs.lemmas.List.{take_all, take-append-le, take-append-drop, length-take-le}
+use Rattle.std.proofs.Common.{◌≡◌, ℕ, ◌+◌, ◌-◌, ◌<◌, ◌≤◌, ◌==◌, suc, Bool, true, false, List, [], ◌∷◌, ◌++◌, length, take, drop, get_or, Option, Some, None, if◌then◌else◌, min, unwrap_or, ⊎_elim, refl, sym, ap, ◌∙◌, arith, length-drop}
+use Rattle.std.proofs.lemmas.List.{take_all, take-append-le}
 use Rattle.std.proofs.Math.Seq.{drop-cons, take-append-add}
 use Rattle.std.specs.Option.{option_map}
 use Rattle.std.proofs.lemmas.Bool.{cases_lt}

@@ -4,3 +4,6 @@ pub mod Moves
 pub mod Exits
 pub mod Outlines
 pub mod Readings
+pub mod Sendings
+pub mod Phrases
+pub mod ReplyTexts

@@ -1,18 +1,14 @@
 -- What stands at the front of all bytes, by what was kept of them.
-use Rattle.std.proofs.Common.{◌≡◌, ℕ, ◌+◌, ◌-◌, ◌<◌, ◌≤◌, Bool, true, false, List, [], ◌∷◌, ◌++◌, length, take, drop, Option, Some, None, Result, Ok, Err, if◌then◌else◌, inl, inr, refl, sym, ap, ◌∙◌, subst, arith, length-append, length-drop, unwrap_or}
+use Rattle.std.proofs.Common.{◌≡◌, ℕ, ◌+◌, ◌<◌, ◌≤◌, true, false, List, [], ◌++◌, length, take, drop, Option, Some, None, if◌then◌else◌, inl, refl, sym, ap, ◌∙◌, subst, arith, length-append, length-drop, unwrap_or}
 use Rattle.std.proofs.lemmas.Bool.Decides.{nat_tests}
 use Rattle.std.proofs.lemmas.List.{append-nil, take-append-le, drop-append-le, drop-drop}
-use Rattle.std.specs.Option.{option_map}
 use Rattle.std.specs.Prelude.{nat_lt}
-use Rattle.httparse.specs.Grammar.{RequestHead, ReadsRequest}
-use Rattle.httparse.specs.Spans.{span_bytes}
 use Rattle.cw_io.specs.Told.{with_front, IsAtEnd}
 use Rattle.cw_http.specs.declared.request.Request.{Request}
 use Rattle.cw_http.specs.declared.outline.Outline.{Outline}
 use Rattle.cw_http.specs.HeadEnd.{head_length}
 use Rattle.cw_http.specs.Head.{refusal_of_lines}
-use Rattle.cw_http.specs.Fields.{body_length, closes}
-use Rattle.cw_http.specs.Reading.{Reading, found, unfinished, refused, fields_of, request_of, with_body, of_length, reading_of, ReadsHead, ReadsBehind, Reads}
+use Rattle.cw_http.specs.Reading.{Reading, found, unfinished, refused, request_of, with_body, of_length, ReadsHead, ReadsBehind, Reads}
 use Rattle.cw_http.specs.Kept.{Moved, IsTold, IsTaken}
 use Rattle.cw_http.specs.Outline.{IsOutline, IsTakenBy}
 use Rattle.cw_http.proofs.HeadEnds.{head_length-kept}

@@ -1,5 +1,5 @@
 -- Where the head of a message ends (RFC 9112, 2.1): with the empty line, the first line end that another one follows.
-use Rattle.std.specs.Prelude.{ℕ, ◌+◌, ◌==◌, suc, List, [], ◌∷◌, Option, Some, None, if◌then◌else◌}
+use Rattle.std.specs.Prelude.{ℕ, ◌==◌, suc, List, [], ◌∷◌, Option, Some, None, if◌then◌else◌}
 use Rattle.std.specs.Option.{option_map}
 
 -- how long the empty line is that begins there: LF or CR LF

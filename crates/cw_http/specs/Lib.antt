@@ -6,3 +6,5 @@ pub mod Kept
 pub mod Parsed
 pub mod Faults
 pub mod Outline
+pub mod Replies
+pub mod Sending

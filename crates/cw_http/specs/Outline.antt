@@ -1,5 +1,5 @@
 -- What a reader keeps of a head: where its method and its target stand, how long its body is, and whether it closes.
-use Rattle.std.specs.Prelude.{◌≡◌, ℕ, ◌+◌, ◌≤◌, List, [], length, take, drop, Ok}
+use Rattle.std.specs.Prelude.{◌≡◌, ℕ, ◌≤◌, List, [], take, drop, Ok}
 use Rattle.httparse.specs.Grammar.{RequestHead, ReadsRequest}
 use Rattle.httparse.specs.Spans.{IsWithin, span_bytes}
 use Rattle.cw_http.specs.declared.outline.Outline.{Outline}

@@ -10,7 +10,10 @@ mod head;
 mod head_end;
 mod outline;
 mod reading;
+mod replying;
 mod request;
+mod sending;
 
 pub use reading::read_request;
+pub use replying::{refusal, write_reply};
 pub use request::{HttpFault, Request};

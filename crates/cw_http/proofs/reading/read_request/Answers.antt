@@ -1,4 +1,4 @@
-use Rattle.std.proofs.Common.{◌≡◌, ◌+◌, ◌≤◌, ℕ, List, Result, Err, None, vec_len, length, take, drop, sym, ap, ◌∙◌, subst, arith, rules}
+use Rattle.std.proofs.Common.{◌≡◌, ℕ, List, Result, Err, None, vec_len, length, take, sym, subst, arith, rules}
 use Rattle.cw_http.specs.declared.request.HttpFault.TheVariants as http
 use Rattle.cw_http.specs.Head.{refusal_of_lines}
 use Rattle.cw_http.specs.Reading.{refused, ReadsHead}
