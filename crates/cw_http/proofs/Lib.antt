@@ -7,3 +7,4 @@ pub mod Readings
 pub mod Sendings
 pub mod Phrases
 pub mod ReplyTexts
+pub mod Ones

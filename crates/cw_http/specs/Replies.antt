@@ -38,7 +38,8 @@ reply_text reply close =
 
 -- the body of a refusal
 abbrev pub refusal_text : ℕ → List ℕ
-refusal_text code = codes "{\"error_code\":" ++ decimal code ++ codes ",\"message\":\"HTTP " ++ decimal code ++ codes "\"}"
+refusal_text code =
+    codes "{\"error_code\":" ++ decimal code ++ codes ",\"message\":\"HTTP " ++ decimal code ++ codes "\"}"
 
 -- the reply of a refusal
 abbrev pub refusal_of : ℕ → Reply

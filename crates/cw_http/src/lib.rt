@@ -8,12 +8,14 @@
 mod fields;
 mod head;
 mod head_end;
+mod laws;
 mod outline;
 mod reading;
 mod replying;
 mod request;
 mod sending;
 
+pub use laws::requests_are_one;
 pub use reading::read_request;
 pub use replying::{refusal, write_reply};
 pub use request::{HttpFault, Request};

@@ -43,8 +43,8 @@ pub(crate) fn send_line<L: Link>(
 ) -> Result<usize, Failed>
     requires { count ≤ length waiting.old }
     ensures fits { IfOk result (λ n. n ≤ length waiting.new) }
-    ensures ok { IfOk result (λ n. Waits (take count waiting.old ++ name.now ++ value.now ++ end.now) (take n waiting.new)
-        (L.held link.old) (L.held link.new)) }
+    ensures ok { IfOk result (λ n. Waits (take count waiting.old ++ name.now ++ value.now ++ end.now)
+        (take n waiting.new) (L.held link.old) (L.held link.new)) }
     ensures in_part { OnErr result (IsWrittenInPart (take count waiting.old ++ name.now ++ value.now ++ end.now)
         (L.held link.old) (L.held link.new)) }
     ensures apart { L.left link.new ≡ L.left link.old }
