@@ -19,3 +19,6 @@ pub use laws::requests_are_one;
 pub use reading::read_request;
 pub use replying::{refusal, write_reply};
 pub use request::{HttpFault, Request};
+
+#[cfg(test)]
+mod tests;
