@@ -14,6 +14,7 @@ mod offsets;
 mod parts;
 mod plans;
 mod props;
+mod requests;
 mod routes;
 mod script_lines;
 mod spellings;
@@ -81,6 +82,7 @@ fn make_other_call(
         "tasks" => checks::tasks(alloc, fields, answer),
         "task" => checks::task(alloc, fields, answer),
         "route" => routes::route_call(alloc, fields, answer),
+        "requests" => requests::read(alloc, fields, answer),
         "line" => script_lines::read(alloc, fields, answer),
         "plan" => plans::plan_call(alloc, fields, answer),
         "delay" => delays::delay(fields, answer),

@@ -24,7 +24,8 @@ pub fn load(
     answer.count(states.feeds.names().len())
 }
 
-fn pieces(alloc: Global, fields: &mut Fields<'_>) -> Result<Vec<u8>, Fault> {
+/// Bytes, as pieces that stand so many times each.
+pub fn pieces(alloc: Global, fields: &mut Fields<'_>) -> Result<Vec<u8>, Fault> {
     let count = fields.short()?;
     let mut content = Vec::new(alloc);
     for _ in 0..count {
