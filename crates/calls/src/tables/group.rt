@@ -1,4 +1,7 @@
 //! Calls of a group of workers.
+ghost use Rattle.std.specs.Prelude.{IfOk};
+ghost use Rattle.std.specs.List.{IsDistinct};
+ghost use Rattle.cw_assign.specs.Items.{same_item};
 
 use crate::answer::Answer;
 use crate::fault::Fault;
@@ -72,8 +75,17 @@ fn join(
 ) -> Result<(), Fault> {
     let worker = fields.short()?;
     let incarnation = fields.long()?;
-    let held = fields.items(alloc)?;
-    say_number(group.join(worker, incarnation, &held), answer)
+    let held = held_items(alloc, fields)?;
+    let round = group.join(worker, incarnation, &held);
+    say_number(round, answer)
+}
+
+// What a member holds: each item once, in item order.
+fn held_items(alloc: Global, fields: &mut Fields<'_>) -> Result<Vec<Item>, Fault>
+    ensures { IfOk result (λ items. IsDistinct same_item items.items) }
+{
+    let items = fields.items(alloc)?;
+    Ok(ItemSet::of(alloc, &items)?.into_items(alloc)?)
 }
 
 fn expire(group: &mut Group, fields: &mut Fields<'_>, answer: &mut Answer) -> Result<(), Fault> {
