@@ -60,6 +60,3 @@ fn words_of<R: Env + AllocGlobal>(rt: &R) -> Result<Vec<String>, Status> {
     }
     Ok(words)
 }
-
-#[cfg(test)]
-mod tests;
