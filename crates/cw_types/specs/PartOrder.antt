@@ -1,5 +1,5 @@
--- The order of parts as keys of a table (this project's own): scripts' parts come first, and each connector's parts stand
--- side by side, by kind and then by name or number.
+-- The order of parts as keys of a table (this project's own): scripts' parts come first, and each connector's parts
+-- stand side by side, by kind and then by name or number.
 use Rattle.std.specs.Prelude.{◌≡◌, ℕ, Bool, true, false, ◌&&◌, ◌==◌, List, [], refl}
 use Rattle.std.specs.declared.cmp.Ordering.{Ordering}
 use Rattle.std.specs.declared.cmp.Ordering.TheVariants.{Less, Equal, Greater}
@@ -46,7 +46,8 @@ part_cmp = then_cmp (on owner (slice_cmp nat_cmp))
 -- it is a total order
 pub part_total : IsTotalOrder part_cmp
 part_total = then_total (on_total owner nat_list_cmp_total)
-    (then_total (on_total kind nat_cmp_total) (then_total (on_total label nat_list_cmp_total) (on_total number nat_cmp_total)))
+    (then_total (on_total kind nat_cmp_total)
+    (then_total (on_total label nat_list_cmp_total) (on_total number nat_cmp_total)))
 
 -- two answers one behind the other tie where both do
 both : (o p : Ordering) (x y : Bool) → x ≡ is_eq o → y ≡ is_eq p → (x && y) ≡ is_eq (ordering_then o p)
@@ -71,7 +72,8 @@ part_ties (Raw a) (File b g) = never (slice_cmp nat_cmp [] b) Less refl
 part_ties (Raw a) (Seq b j) = never (slice_cmp nat_cmp [] b) Less refl
 part_ties (Raw a) (Sink b u) = never (slice_cmp nat_cmp [] b) Less refl
 part_ties (File a f) (Raw b) = never (slice_cmp nat_cmp a []) Greater refl
-part_ties (File a f) (File b g) = both (slice_cmp nat_cmp a b) (ordering_then (slice_cmp nat_cmp f g) Equal) _ _ (texts_ties a b) (texts_ties f g ∙ alone (slice_cmp nat_cmp f g))
+part_ties (File a f) (File b g) = both (slice_cmp nat_cmp a b)
+    (ordering_then (slice_cmp nat_cmp f g) Equal) _ _ (texts_ties a b) (texts_ties f g ∙ alone (slice_cmp nat_cmp f g))
 part_ties (File a f) (Seq b j) = never (slice_cmp nat_cmp a b) Greater refl
 part_ties (File a f) (Sink b u) = never (slice_cmp nat_cmp a b) Less refl
 part_ties (Seq a i) (Raw b) = never (slice_cmp nat_cmp a []) Greater refl
@@ -81,4 +83,5 @@ part_ties (Seq a i) (Sink b u) = never (slice_cmp nat_cmp a b) Less refl
 part_ties (Sink a t) (Raw b) = never (slice_cmp nat_cmp a []) Greater refl
 part_ties (Sink a t) (File b g) = never (slice_cmp nat_cmp a b) Greater refl
 part_ties (Sink a t) (Seq b j) = never (slice_cmp nat_cmp a b) Greater refl
-part_ties (Sink a t) (Sink b u) = both (slice_cmp nat_cmp a b) (ordering_then (slice_cmp nat_cmp t u) Equal) _ _ (texts_ties a b) (texts_ties t u ∙ alone (slice_cmp nat_cmp t u))
+part_ties (Sink a t) (Sink b u) = both (slice_cmp nat_cmp a b)
+    (ordering_then (slice_cmp nat_cmp t u) Equal) _ _ (texts_ties a b) (texts_ties t u ∙ alone (slice_cmp nat_cmp t u))

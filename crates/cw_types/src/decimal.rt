@@ -63,5 +63,6 @@ pub fn read_u32(text: &[u8]) -> Option<u32>
 /// The law of decimal numbers: what is written as decimal text is read again, and nothing else is read.
 pub fn numbers_are_decimals()
     ensures again { (most n : ℕ) → n < 2 ^ 64 → n ≤ most → number_of most (decimal n) ≡ Some n }
-    ensures only { (most n : ℕ) (text : List ℕ) → most < 2 ^ 64 → number_of most text ≡ Some n → (text ≡ decimal n) × (n ≤ most) }
+    ensures only { (most n : ℕ) (text : List ℕ) → most < 2 ^ 64 → number_of most text ≡ Some n →
+        (text ≡ decimal n) × (n ≤ most) }
 {}
