@@ -37,7 +37,8 @@ pub fn make_row<K: Ord + Drop, V: Copy>(
 /// Sets a new value in a row that is there.
 pub fn set_row<K: Ord, V: Copy>(table: &mut BTreeMap<K, V>, key: &K, value: V)
     requires { IsSome (get K.cmp table.old key.now) }
-    ensures { (q : K) → get K.cmp table.new q ≡ (if is_at (K.cmp key.now) q then Some value else get K.cmp table.old q) }
+    ensures { (q : K) → get K.cmp table.new q ≡
+        (if is_at (K.cmp key.now) q then Some value else get K.cmp table.old q) }
 {
     if let Some(place) = table.get_mut(key) {
         *place = value;
