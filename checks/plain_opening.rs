@@ -1,10 +1,9 @@
-//! A plain program that opens a transaction log of scripts' producers or connectors' tasks, with std's hash tables and no proof: the
+//! A plain program that opens a transaction log of scripts' producers or connectors' tasks, with std's ordered maps and no proof: the
 //! yardstick for an opening. `plain_opening LOG` reads the log whole, walks its frames, keeps what answers a coordinator's three
 //! questions (the epoch of each producer, the end of each part, the committed transactions), and panics where a commit isn't under
 //! its producer's epoch or is there already, a script's isn't numbered by its place, or a span doesn't begin where its part ended.
 //! It makes nothing of a damaged log.
-use std::collections::{HashMap, HashSet};
-use std::hash::Hash;
+use std::collections::{BTreeMap, BTreeSet};
 
 /// The bytes of one body that are still to be read.
 struct Reader<'a>(&'a [u8]);
@@ -50,57 +49,32 @@ impl<'a> Reader<'a> {
     }
 }
 
-#[derive(Clone, PartialEq, Eq, Hash)]
+#[derive(Clone, PartialEq, Eq, PartialOrd, Ord)]
 enum Producer {
-    Script(u32),
     Task(Vec<u8>, u32),
+    Script(u32),
 }
 
-#[derive(PartialEq, Eq, Hash)]
+#[derive(PartialEq, Eq, PartialOrd, Ord)]
 enum Part {
     Script(u32),
     File(Vec<u8>, Vec<u8>),
 }
 
-/// A table whose numbers have rows of their own, which keeps these small.
-struct Table<K> {
-    numbered: HashMap<u32, u64>,
-    named: HashMap<K, u64>,
-}
-
-impl<K: Hash + Eq> Table<K> {
-    fn new() -> Table<K> {
-        Table { numbered: HashMap::new(), named: HashMap::new() }
-    }
-
-    /// The value of a number or a key, 0 where it has none yet.
-    fn value(&mut self, number: Option<u32>, key: K) -> &mut u64 {
-        match number {
-            Some(number) => self.numbered.entry(number).or_insert(0),
-            None => self.named.entry(key).or_insert(0),
-        }
-    }
-}
-
-fn script_producer(producer: &Producer) -> Option<u32> {
-    match producer {
-        Producer::Script(number) => Some(*number),
-        Producer::Task(..) => None,
-    }
-}
-
-fn script_part(part: &Part) -> Option<u32> {
-    match part {
-        Part::Script(number) => Some(*number),
-        Part::File(..) => None,
-    }
+/// A transaction: its number stands first, which keeps those of a table in the order of their making.
+#[derive(PartialEq, Eq, PartialOrd, Ord)]
+struct Tag {
+    number: u64,
+    epoch: u64,
+    producer: Producer,
 }
 
 /// The epochs, ends and transactions of the entries so far, and their number.
+#[derive(Default)]
 struct Opened {
-    epochs: Table<Producer>,
-    ends: Table<Part>,
-    committed: HashSet<(Producer, u64, u64)>,
+    epochs: BTreeMap<Producer, u64>,
+    ends: BTreeMap<Part, u64>,
+    committed: BTreeSet<Tag>,
     entries: u64,
 }
 
@@ -109,10 +83,7 @@ impl Opened {
         let mut from = Reader(body);
         for _ in 0..from.u32() {
             match from.byte() {
-                1 => {
-                    let producer = from.producer();
-                    *self.epochs.value(script_producer(&producer), producer) += 1;
-                }
+                1 => *self.epochs.entry(from.producer()).or_insert(0) += 1,
                 2 => self.take_commit(&mut from),
                 kind => panic!("an entry of kind {kind}"),
             }
@@ -123,19 +94,17 @@ impl Opened {
 
     fn take_commit(&mut self, from: &mut Reader<'_>) {
         let producer = from.producer();
-        let number = script_producer(&producer);
-        let epoch = from.u64();
-        assert_eq!(epoch, *self.epochs.value(number, producer.clone()), "another epoch");
-        let place = from.u64();
-        assert!(self.committed.insert((producer, epoch, place)), "a transaction that is there");
-        assert!(number.is_none() || place == self.entries, "another place");
+        let (epoch, number) = (from.u64(), from.u64());
+        assert_eq!(Some(&epoch), self.epochs.get(&producer), "another epoch");
+        let is_script = matches!(producer, Producer::Script(_));
+        assert!(self.committed.insert(Tag { number, epoch, producer }), "a transaction that is there");
+        assert!(!is_script || number == self.entries, "another place");
         from.u64();
         for _ in 0..from.u32() {
-            let part = from.part();
-            let (begin, end) = (from.u64(), from.u64());
-            let before = self.ends.value(script_part(&part), part);
-            assert!(begin == *before && end > begin, "a span that doesn't go on");
-            *before = end;
+            let end = self.ends.entry(from.part()).or_insert(0);
+            let span = (from.u64(), from.u64());
+            assert!(span.0 == *end && span.1 > span.0, "a span that doesn't go on");
+            *end = span.1;
         }
     }
 }
@@ -143,7 +112,7 @@ impl Opened {
 fn main() {
     let path = std::env::args().nth(1).expect("the path of a log");
     let log = std::fs::read(path).expect("a log");
-    let mut opened = Opened { epochs: Table::new(), ends: Table::new(), committed: HashSet::new(), entries: 0 };
+    let mut opened = Opened::default();
     let mut frames = Reader(&log[16..]);
     while frames.byte() == 1 {
         let length = frames.u32() as usize;

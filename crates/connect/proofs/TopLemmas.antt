@@ -1,5 +1,5 @@
 -- What a run gave, from what its opening and its drive gave.
-use Rattle.std.proofs.Common.{◌≡◌, ◌⊎◌, ⊎_elim, inl, inr, ℕ, ◌≤◌, ◌+◌, List, [], ◌++◌, length, true, false, is_some, Option, Some, None, option_map, refl, sym, ap, subst, ◌∙◌, arith}
+use Rattle.std.proofs.Common.{◌≡◌, ◌⊎◌, ⊎_elim, inl, inr, ℕ, ◌+◌, List, [], ◌++◌, length, true, false, is_some, Option, Some, None, option_map, refl, sym, ap, subst, ◌∙◌, arith}
 use Rattle.cw_disk.specs.Told.{Adds}
 use Rattle.cw_disk.proofs.Moments.{adds_weaker, adds_then}
 use Rattle.cw_log.specs.Log.{StandAlike, IsUnmade, OpensAs, new_log}

@@ -1,7 +1,6 @@
 //! How the process ends: the number that it exits with, and the line on the standard error.
 ghost use Rattle.std.specs.Prelude.{◌≡◌, ◌≢◌, OnOk, OnErr};
 ghost use Rattle.std.specs.declared.io.ErrorKind.TheVariants.{OutOfMemory};
-ghost use Rattle.cw_script.specs.Faults.{kind_text};
 ghost use Rattle.cw_types.specs.Faults.{Rose};
 ghost use Rattle.connect.specs.declared.status.Status.TheVariants.{BadScript, Usage, Memory};
 ghost use Rattle.connect.specs.Drives.{Writes};
@@ -62,21 +61,7 @@ fn tell_bad_script<E: Sink>(line: u64, kind: LineKind, errors: &mut E) -> Result
     write_all(errors, b"status 2 BadScript ")?;
     write_all(errors, digits.format(line).as_bytes())?;
     write_all(errors, b" ")?;
-    write_all(errors, name_of(kind).as_bytes())?;
+    write_all(errors, kind.name().as_bytes())?;
     write_all(errors, b"\n")?;
     Ok(())
-}
-
-// The name of a line's fault.
-fn name_of(kind: LineKind) -> &'static str
-    ensures { result.now ≡ kind_text kind }
-{
-    match kind {
-        LineKind::NoWord => "NoWord",
-        LineKind::Count => "Count",
-        LineKind::Number => "Number",
-        LineKind::NoWorker => "NoWorker",
-        LineKind::NoInstance => "NoInstance",
-        LineKind::BadName => "BadName",
-    }
 }

@@ -8,6 +8,8 @@
 #![tactic(auto)]
 
 mod answer;
+#[cfg(test)]
+mod bounded;
 mod drive;
 mod ending;
 mod lines;
@@ -16,6 +18,8 @@ mod player;
 mod reading;
 mod session;
 mod status;
+#[cfg(test)]
+mod tests;
 mod top;
 mod transactions;
 

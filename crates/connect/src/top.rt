@@ -97,14 +97,8 @@ pub fn connect<R: AllocGlobal, D: Disk, I: Source, O: Sink>(
     Outcome {
         status: driven.status,
         disks: Disks {
-            config_a: disks.config_a,
-            config_b: disks.config_b,
-            offsets_a: disks.offsets_a,
-            offsets_b: disks.offsets_b,
-            status_a: disks.status_a,
-            status_b: disks.status_b,
             txn: driven.disk,
-            batches: disks.batches,
+            ..disks
         },
     }
 }

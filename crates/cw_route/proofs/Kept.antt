@@ -20,9 +20,9 @@ abbrev Kept : Result Call RouteFault → Type 0
 Kept (Ok call) = is_refused call ≡ false
 Kept (Err fault) = Unit {0}
 
-part_kept : {A : Type 0} (call : A → Call) → ((x : A) → is_refused (call x) ≡ false) → (o : Option A) → Kept (of_part call o)
-part_kept call kept None = tt
-part_kept call kept (Some x) = kept x
+part_kept : {A : Type 0} (call : A → Call) → ((x : A) → is_refused (call x) ≡ false) → (part : Result A RouteFault) → Kept (of_part call part)
+part_kept call kept (Ok x) = kept x
+part_kept call kept (Err fault) = tt
 
 for_kept : (operation : Operation) (ps : List (List ℕ × List ℕ)) (body : List ℕ) → Kept (call_for operation ps body)
 for_kept op.Connectors ps body = refl

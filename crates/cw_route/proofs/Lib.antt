@@ -1,3 +1,4 @@
+pub mod Pages
 pub mod Plain
 pub mod Spells
 pub mod Levels
@@ -7,3 +8,4 @@ pub mod Only
 pub mod Taken
 pub mod PageCalls
 pub mod Kept
+pub mod Named

@@ -1,7 +1,7 @@
 -- Which call of Connect's REST API a request is: the target is a path and a query behind the first `?`; the path
 -- decides the page, the method
 -- what is asked of it, and the page's parameters name the connector or the task.
-use Rattle.std.specs.Prelude.{◌≡◌, ◌≢◌, ◌+◌, ℕ, ◌==◌, Bool, true, false, List, [], length, take, drop, Option, Some, None, Result, Ok, Err, MatchResult, position, if◌then◌else◌}
+use Rattle.std.specs.Prelude.{◌+◌, ℕ, ◌==◌, Bool, true, false, List, [], length, take, drop, Option, Some, None, Result, Ok, Err, position, if◌then◌else◌}
 use Rattle.std.specs.List.{list_all}
 use Rattle.matchit.specs.Router.{RouteOf}
 use Rattle.matchit.specs.Seek.{first}
@@ -16,16 +16,12 @@ use Rattle.cw_route.specs.declared.operation.Operation.TheVariants as op
 use Rattle.cw_route.specs.declared.call.Call.{Call}
 use Rattle.cw_route.specs.declared.call.Call.TheVariants.{Refused, Connectors, Create, Info, Delete, Config, PutConfig, Status, Tasks, TaskStatus, Pause, Resume, Stop, Restart, RestartTask, Offsets, Alter, Reset, Plugins}
 use Rattle.cw_route.specs.declared.call.RouteFault.{RouteFault}
-use Rattle.cw_route.specs.declared.call.RouteFault.TheVariants.{NotFound, NotAllowed, BadPath, BadQuery, Memory}
+use Rattle.cw_route.specs.declared.call.RouteFault.TheVariants.{NotFound, NotAllowed, BadQuery}
 
--- a call gives just what is meant, unless memory ran out
-abbrev pub Gives : Result Call RouteFault → Result Call RouteFault → Type 0
-Gives result meant = MatchResult result (λ call. meant ≡ Ok call) (λ fault. fault ≢ Memory → meant ≡ Err fault)
-
--- the call of a part, or BadPath where there is none
-abbrev pub of_part : {A : Type 0} → (A → Call) → Option A → Result Call RouteFault
-of_part call None = Err BadPath
-of_part call (Some part) = Ok (call part)
+-- the call of a part, where the path has it
+abbrev pub of_part : {A : Type 0} → (A → Call) → Result A RouteFault → Result Call RouteFault
+of_part call (Ok part) = Ok (call part)
+of_part call (Err fault) = Err fault
 
 -- the call of an operation, by the parts that the path's parameters took
 abbrev pub call_for : Operation → List (List ℕ × List ℕ) → List ℕ → Result Call RouteFault

@@ -3,3 +3,4 @@ pub mod Operations
 pub mod Parts
 pub mod Calls
 pub mod Spelled
+pub mod HeldNames

@@ -10,6 +10,7 @@ ghost use Rattle.cw_route.specs.declared.page.Page.{Page};
 ghost use Rattle.cw_route.specs.Table.{table, page_route, page_path, page_params};
 ghost use Rattle.cw_route.specs.Operations.{operation};
 ghost use Rattle.cw_route.specs.Calls.{params_of, call_asked, call_at, call_of, is_refused};
+ghost use Rattle.cw_route.specs.HeldNames.{HoldsName};
 ghost use Rattle.cw_route.specs.Spelled.{AreBytes, IsSegment, IsAt};
 
 /// The law of the table: a path that is spelled as a page's pattern, with a segment in place of each
@@ -34,4 +35,9 @@ pub fn pages_are_called()
         call_at method path query body ≡ Err NotFound }
     ensures kept { (method target body : List ℕ) (call : Call) → call_of method target body ≡ Ok call →
         is_refused call ≡ false }
+{}
+
+/// A call that names a connector, or one of its tasks, holds a name: at most 128 bytes, each `!` to `~`.
+pub fn calls_hold_names()
+    ensures { (method target body : List ℕ) (call : Call) → call_of method target body ≡ Ok call → HoldsName call }
 {}

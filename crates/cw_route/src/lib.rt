@@ -14,7 +14,7 @@ mod reply;
 mod routing;
 
 pub use call::{Call, RouteFault};
-pub use laws::{pages_are_called, table_reads};
+pub use laws::{calls_hold_names, pages_are_called, table_reads};
 pub use page::Page;
 pub use reply::Reply;
 pub use routing::route;

@@ -2,9 +2,10 @@
 ghost use Rattle.std.specs.Prelude.{◌≡◌, ◌==◌, IfOk, position};
 ghost use Rattle.std.specs.List.{list_all};
 ghost use Rattle.matchit.specs.Params.{walk};
+ghost use Rattle.cw_types.specs.Answers.{Gives};
 ghost use Rattle.cw_types.specs.Name.{is_name_byte};
 ghost use Rattle.cw_route.specs.Parts.{EachIsText};
-ghost use Rattle.cw_route.specs.Calls.{Gives, path_in, query_in, call_of, call_at, call_for};
+ghost use Rattle.cw_route.specs.Calls.{path_in, query_in, call_of, call_at, call_for};
 
 use crate::call::{Call, RouteFault};
 use crate::operation::{Operation, operation_at};
@@ -20,7 +21,7 @@ use std::str;
 /// path, then NotAllowed where it has it with other methods, then BadQuery for a query that isn't empty,
 /// then BadPath for a part that is no name or, for a task, no number below 2^32. The table is Connect's.
 pub fn route(alloc: Global, method: &[u8], target: &[u8], body: &[u8]) -> Result<Call, RouteFault>
-    ensures { Gives result (call_of method.now target.now body.now) }
+    ensures { Gives RouteFault.Memory result (call_of method.now target.now body.now) }
 {
     let (path, query) = cut_target(target);
     call_at(alloc, method, path, query, body)
@@ -59,7 +60,7 @@ fn call_at(
     query: &[u8],
     body: &[u8],
 ) -> Result<Call, RouteFault>
-    ensures { Gives result (call_at method.now path.now query.now body.now) }
+    ensures { Gives RouteFault.Memory result (call_at method.now path.now query.now body.now) }
 {
     if !is_plain(path) {
         return Err(RouteFault::NotFound);
@@ -67,9 +68,7 @@ fn call_at(
     let Ok(text) = str::from_utf8(path) else {
         return Err(RouteFault::NotFound);
     };
-    let Ok(router) = router(alloc) else {
-        return Err(RouteFault::Memory);
-    };
+    let router = router(alloc)?;
     let Ok(found) = router.at(text) else {
         return Err(RouteFault::NotFound);
     };
@@ -98,8 +97,8 @@ fn call_for(
 ) -> Result<Call, RouteFault>
     requires { EachIsText (walk params.now.pattern.now params.now.text.now params.now.path.now params.now.names.now 0
         0) }
-    ensures { Gives result (call_for operation (walk params.now.pattern.now params.now.text.now params.now.path.now
-        params.now.names.now 0 0) body.now) }
+    ensures { Gives RouteFault.Memory result (call_for operation (walk params.now.pattern.now params.now.text.now
+        params.now.path.now params.now.names.now 0 0) body.now) }
 {
     match operation {
         Operation::Connectors => Ok(Call::Connectors),

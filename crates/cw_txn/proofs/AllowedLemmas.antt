@@ -14,7 +14,7 @@ use Rattle.cw_txn.specs.declared.entry.SetOffset.{SetOffset}
 use Rattle.cw_txn.specs.declared.entry.Entry.{Entry}
 use Rattle.cw_txn.specs.declared.entry.Entry.TheVariants.{Bump, Commit, Set}
 use Rattle.cw_txn.specs.Legal.{EachFrom, IsLegalBehind, IsLegal, IsNumberedBehind, AreNumbered, epoch_of, is_committed}
-use Rattle.cw_txn.specs.Allowed.{IsRaw, IsSourceOf, IsSinkOf, CommitsOwn, SetsOwn, IsAllowedBehind, AreAllowed}
+use Rattle.cw_txn.specs.Allowed.{IsRaw, IsSourceOf, IsSinkOf, CommitsOwn, IsAllowedBehind, AreAllowed}
 use Rattle.cw_txn.specs.Transactions.{AreNext}
 use Rattle.cw_txn.proofs.Walks.{Each-push}
 use Rattle.cw_txn.proofs.Numbered.{is_committed-numbered}

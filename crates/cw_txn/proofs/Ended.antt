@@ -1,5 +1,5 @@
 -- The parts of a connector that a table has, against those that the list has.
-use Rattle.std.proofs.Common.{◌≡◌, ℕ, Bool, true, false, ◌&&◌, cond, List, [], ◌∷◌, Option, Some, None, unwrap_or, is_some, IsSome, All, Contains, refl, sym, ap, ◌∙◌, subst, arith}
+use Rattle.std.proofs.Common.{◌≡◌, ℕ, Bool, true, false, ◌&&◌, cond, List, [], ◌∷◌, Option, Some, None, unwrap_or, is_some, IsSome, Contains, refl, sym, ap, ◌∙◌, subst, arith}
 use Rattle.std.specs.declared.cmp.Ordering.TheVariants.{Less}
 use Rattle.std.specs.Ordering.{is_eq}
 use Rattle.std.specs.Bool.{Decides}
@@ -10,7 +10,7 @@ use Rattle.std.specs.Map.{keys_of, lookup}
 use Rattle.std.specs.BTreeMap.{BTreeMap, get, is_at, IsOrdered}
 use Rattle.std.proofs.lemmas.Bool.Decides.{Decides-like}
 use Rattle.std.proofs.lemmas.Slice.Eq.{bytes_eq-Decides}
-use Rattle.std.proofs.lemmas.List.Elements.{All-from_recursion, recursion_from_All, All-contains, Contains-append_right}
+use Rattle.std.proofs.lemmas.List.Elements.{All-from_recursion, All-contains, Contains-append_right}
 use Rattle.std.proofs.lemmas.Map.Keys.{sorted_head, sorted_tail, IsDistinct-cons}
 use Rattle.cw_types.specs.declared.ids.PartKey.{PartKey}
 use Rattle.cw_types.specs.declared.ids.PartKey.TheVariants.{Raw, File, Seq, Sink}
@@ -19,7 +19,7 @@ use Rattle.cw_txn.specs.declared.history.History.{History}
 use Rattle.cw_types.specs.Same.{same_part, connector_of, part_order}
 use Rattle.cw_txn.specs.History.{history, end_of, unset}
 use Rattle.cw_txn.specs.Transactions.{ArePartsOf}
-use Rattle.cw_txn.specs.Tables.{is_of, parts_in, history_at, first_of, rows_from, first_parts}
+use Rattle.cw_txn.specs.Tables.{is_of, parts_in, history_at, rows_from, first_parts}
 use Rattle.cw_txn.proofs.DistinctParts.{none_distinct}
 use Rattle.cw_txn.proofs.Beside.{beside}
 use Rattle.cw_types.proofs.SameLemmas.{part_at, same_part-flip, same_part-Decides}

@@ -10,7 +10,7 @@ use Rattle.cw_types.specs.declared.ids.Span.{Span}
 use Rattle.cw_txn.specs.declared.history.History.{History}
 use Rattle.cw_types.specs.Same.{same_tid, same_tag, same_part, tid_order, tag_order, part_order}
 use Rattle.cw_txn.specs.History.{unset, after_span}
-use Rattle.cw_txn.specs.Tables.{epoch_at, committed_at, history_at, HasPart, HasTag, RaisesRow, RaisesEpoch, MovesRow, ended}
+use Rattle.cw_txn.specs.Tables.{committed_at, history_at, HasPart, HasTag, RaisesRow, RaisesEpoch, MovesRow, ended}
 use Rattle.cw_types.proofs.SameLemmas.{tid_at, same_tid-flip, same_tid-Decides, tag_at, same_tag-flip, same_tag-Decides, part_at, same_part-flip, same_part-Decides}
 use Rattle.cw_tables.proofs.RowLemmas.{value-set, value-moved}
 

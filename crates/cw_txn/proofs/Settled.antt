@@ -1,7 +1,7 @@
 -- The coordinator's invariant behind its steps.
-use Rattle.std.proofs.Common.{◌≡◌, ℕ, ◌+◌, ◌≤◌, ◌<◌, ◌^◌, List, [], ◌∷◌, ◌++◌, length, take, drop, slice_index_or, Contains, sym, subst, ◌∙◌, arith, length-append, ⊎_elim}
-use Rattle.std.proofs.lemmas.List.{take-append-drop, get_or_default}
-use Rattle.std.proofs.lemmas.List.Elements.{All-weaker, Contains-push_cases, Contains-append_left, Contains-append_right, Contains-append_cases}
+use Rattle.std.proofs.Common.{◌≡◌, ℕ, ◌+◌, ◌<◌, ◌^◌, List, [], ◌∷◌, ◌++◌, length, take, drop, Contains, sym, subst, ◌∙◌, arith, length-append, ⊎_elim}
+use Rattle.std.proofs.lemmas.List.{take-append-drop}
+use Rattle.std.proofs.lemmas.List.Elements.{All-weaker, Contains-push_cases, Contains-append_left, Contains-append_right, Contains-append_cases, Contains-get_or}
 use Rattle.cw_types.specs.declared.ids.PartKey.{PartKey}
 use Rattle.cw_types.specs.declared.ids.Span.{Span}
 use Rattle.cw_txn.specs.declared.entry.Entry.{Entry}
@@ -49,24 +49,22 @@ module _ (tables : Tables) (entries reserved : List Entry) (count : ℕ) (was : 
   }
 
   -- with an entry written
-  pub settled : (now : Tables) (entry written : Entry) (longer held rest : List Entry) (more : ℕ) → longer ≡ entries ++ entry ∷ [] → Keeps now longer → KeepsRows tables now
-      → entries ≡ held → entry ≡ written → IsLegalBehind held written → ((part : PartKey) → ChainsBehind part held written)
+  pub settled : (now : Tables) (entry : Entry) (longer held rest : List Entry) (more : ℕ) → longer ≡ entries ++ entry ∷ [] → Keeps now longer → KeepsRows tables now
+      → entries ≡ held → IsLegalBehind held entry → ((part : PartKey) → ChainsBehind part held entry)
       → ((e : Entry) → Contains rest e → Contains reserved e) → more ≡ count + 1 → length entries + 1 + length rest < 2 ^ 64
       → IsCoordinator now longer rest more
-  settled now entry written longer held rest more is kept keeps same one legal chains fewer counted room = record {
-    legal = subst IsLegal (sym is) (Each-push IsLegalBehind entries entry was.legal
-        (subst (λ (e : Entry). IsLegalBehind entries e) (sym one) (subst (λ (l : List Entry). IsLegalBehind l written) (sym same) legal)));
-    chains = λ part. subst (Chains part) (sym is) (Each-push (ChainsBehind part) entries entry (was.chains part)
-        (subst (λ (e : Entry). ChainsBehind part entries e) (sym one) (subst (λ (l : List Entry). ChainsBehind part l written) (sym same) (chains part))));
+  settled now entry longer held rest more is kept keeps same legal chains fewer counted room = record {
+    legal = subst IsLegal (sym is) (Each-push IsLegalBehind entries entry was.legal (subst (λ (l : List Entry). IsLegalBehind l entry) (sym same) legal));
+    chains = λ part. subst (Chains part) (sym is) (Each-push (ChainsBehind part) entries entry (was.chains part) (subst (λ (l : List Entry). ChainsBehind part l entry) (sym same) (chains part)));
     kept = kept;
     rows = λ e there. HasRows-kept tables now keeps e (was.rows e (fewer e there));
     counted = rw is (simp length-append (omega (arith, was.counted, counted)));
     few = rw is (simp length-append room);
   }
 
--- what is taken from the first place of an entry is that entry
-pub taken_is : (entries : List Entry) (at : ℕ) (entry taken : Entry) → IsFirstAt entry entries at → taken ≡ slice_index_or entries at taken → taken ≡ entry
-taken_is entries at entry taken first is = is ∙ get_or_default entries at taken entry first.within ∙ first.there
+-- an entry that has a first place is in the list
+pub is_there : (entries : List Entry) (at : ℕ) (entry : Entry) → IsFirstAt entry entries at → Contains entries entry
+is_there entries at entry first = subst (Contains entries) first.there (Contains-get_or entries at entry first.within)
 
 -- a list without its element at a place
 module _ (entries rest : List Entry) (at : ℕ) (taken : rest ≡ take at entries ++ drop (at + 1) entries) where

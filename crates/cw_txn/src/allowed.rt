@@ -19,7 +19,7 @@ use cw_types::{Epoch, Name, PartKey, Span, Tag, Tid};
 use std::alloc::{AllocError, Global};
 use std::collections::BTreeMap;
 
-// Whether an entry may stand at this place, behind those of the tables.
+/// Whether an entry may stand at this place, behind those of the tables.
 pub fn is_allowed(
     alloc: Global,
     tables: &Tables,

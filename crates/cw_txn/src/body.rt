@@ -169,6 +169,7 @@ fn read_set_entry(alloc: Global, from: &mut Reader<'_>) -> Result<Entry, FieldFa
     Ok(Entry::Set { tid, epoch, list })
 }
 
+/// An entry at the front of what is left.
 #[tactic(auto, unfolding(crate::specs::BodyReading::entry_at))]
 pub fn read_entry(alloc: Global, from: &mut Reader<'_>) -> Result<Entry, FieldFault>
     ensures { Gives (λ entry. (entry, from.new)) result (entry_at from.old) }
@@ -182,7 +183,7 @@ pub fn read_entry(alloc: Global, from: &mut Reader<'_>) -> Result<Entry, FieldFa
     }
 }
 
-// How many entries a body has, which are some.
+/// How many entries a body has, which are some.
 #[tactic(auto, unfolding(crate::specs::BodyReading::count_at))]
 pub fn read_count(from: &mut Reader<'_>) -> Result<u32, FieldFault>
     ensures { Gives (λ count. (count, from.new)) result (count_at from.old) }

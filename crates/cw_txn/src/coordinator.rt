@@ -253,24 +253,13 @@ impl Coordinator {
         ensures reserved { Contains self.old.reserved (entry_of entry.now) → IsOk result }
     {
         if let Some(at) = place_of(&self.reserved, entry) {
-            let reserved = self.reserved.remove(at);
-            settle(
-                &mut self.tables,
-                &mut self.entries,
-                &mut self.length,
-                &reserved,
-            );
+            let _room = self.reserved.remove(at);
+            settle(&mut self.tables, &mut self.entries, &mut self.length, entry);
             return Ok(());
         }
         let counted = self.length + self.reserved.len() as u64;
         make_room(&mut self.tables, counted, entry)?;
-        let written = entry.to_entry(self.alloc)?;
-        settle(
-            &mut self.tables,
-            &mut self.entries,
-            &mut self.length,
-            &written,
-        );
+        settle(&mut self.tables, &mut self.entries, &mut self.length, entry);
         Ok(())
     }
 }
@@ -391,20 +380,25 @@ fn make_room(tables: &mut Tables, counted: u64, entry: &EntryRef<'_>) -> Result<
 }
 
 // Writes an entry for which there is room.
-fn settle(tables: &mut Tables, entries: &mut Past<Entry>, count: &mut u64, entry: &Entry)
+fn settle(tables: &mut Tables, entries: &mut Past<Entry>, count: &mut u64, entry: &EntryRef<'_>)
     requires counted { count.old ≡ length entries.old.items }
     requires few { count.old + 1 < 2 ^ 64 }
-    requires rows { HasRows tables.old entry.now }
+    requires rows { HasRows tables.old (entry_of entry.now) }
     requires kept { Keeps tables.old entries.old.items }
-    ensures written { entries.new.items ≡ entries.old.items ++ entry.now ∷ [] }
+    ensures written { entries.new.items ≡ entries.old.items ++ entry_of entry.now ∷ [] }
     ensures counted { count.new ≡ count.old + 1 }
     ensures kept { Keeps tables.new entries.new.items }
     ensures rows { KeepsRows tables.old tables.new }
 {
     tables.add(entry);
-    *entries = entries.and(entry);
+    note(entries, entry);
     *count += 1;
 }
+
+// Puts an entry behind those that only proofs read. It does nothing at run time, so that no entry is copied for it.
+fn note(entries: &mut Past<Entry>, entry: &EntryRef<'_>)
+    ensures { entries.new.items ≡ entries.old.items ++ entry_of entry.now ∷ [] }
+{}
 
 /// The coordinator of entries whose tables these are.
 pub fn coordinator_of(

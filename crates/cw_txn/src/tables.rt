@@ -125,29 +125,31 @@ impl Tables {
                 Ok(chains)
             }
             Entry::Set { .. } => {
-                self.make_rows(&EntryRef::of(entry))?;
-                self.add(entry);
+                let set = EntryRef::of(entry);
+                self.make_rows(&set)?;
+                self.add(&set);
                 Ok(true)
             }
         }
     }
 
     /// One entry more, whose rows are there.
-    pub fn add(&mut self, entry: &Entry)
-        requires rows { HasRows self.old entry.now }
+    pub fn add(&mut self, entry: &EntryRef<'_>)
+        requires rows { HasRows self.old (entry_of entry.now) }
         requires small { (tid : Tid) → epoch_at self.old.epochs tid + 1 < 2 ^ 64 }
-        ensures kept { (entries : List Entry) → Keeps self.old entries → Keeps self.new (entries ++ entry.now ∷ []) }
+        ensures kept { (entries : List Entry) → Keeps self.old entries →
+            Keeps self.new (entries ++ entry_of entry.now ∷ []) }
         ensures rows { KeepsRows self.old self.new }
     {
         match entry {
-            Entry::Bump(tid) => {
+            EntryRef::Bump(tid) => {
                 let _ = raise_row(&mut self.epochs, tid);
             }
-            Entry::Commit { tag, spans, .. } => {
+            EntryRef::Commit { tag, spans, .. } => {
                 set_row(&mut self.committed, tag, true);
-                move_ends(&mut self.parts, spans.as_slice());
+                move_ends(&mut self.parts, spans);
             }
-            Entry::Set { list, .. } => set_histories(&mut self.parts, list.as_slice()),
+            EntryRef::Set { list, .. } => set_histories(&mut self.parts, list),
         }
     }
 }

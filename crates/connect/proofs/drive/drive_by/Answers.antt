@@ -1,4 +1,4 @@
-use Rattle.std.proofs.Common.{◌≡◌, ◌≤◌, Ok, [], length, take, length-take, refl, ap, ◌∙◌, arith}
+use Rattle.std.proofs.Common.{◌≡◌, ◌≤◌, Ok, [], take, length-take, refl, ap, ◌∙◌, arith}
 use Rattle.cw_types.specs.Faults.{Rose}
 use Rattle.connect.specs.declared.session.Session.{Session}
 use Rattle.connect.proofs.EndLemmas.{moves_none}

@@ -17,7 +17,7 @@ returns-clause-whole g c =
     let line = decimal c.args.line in
     let name = kind_text c.args.kind in
     let numbered : Writes line one two = subst (λ (t : List ℕ). Writes t one two) (c.as_bytes.ensures.value ∙ c.format.ensures.text) c.in_ok-write_all-2.ensures.whole in
-    let named : Writes name three four = subst (λ (t : List ℕ). Writes t three four) (c.as_bytes-2.ensures.value ∙ c.name_of.ensures) c.in_ok-write_all-4.ensures.whole in
+    let named : Writes name three four = subst (λ (t : List ℕ). Writes t three four) (c.as_bytes-2.ensures.value ∙ c.name.ensures) c.in_ok-write_all-4.ensures.whole in
     writes_then (front ++ line ++ 32 ∷ [] ++ name) (10 ∷ []) start four five
     (writes_then (front ++ line ++ 32 ∷ []) name start three four
     (writes_then (front ++ line) (32 ∷ []) start two three

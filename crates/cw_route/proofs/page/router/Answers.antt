@@ -1,8 +1,15 @@
-use Rattle.std.proofs.Common.{refl}
-use Rattle.matchit.proofs.OnLiterals.{matchit_on_literals}
+use Rattle.cw_route.specs.declared.page.Page.TheVariants.{Connectors}
+use Rattle.cw_route.proofs.Pages.{pages_in_order, all_fill, fills_next, fills_all}
 use Rattle.cw_route.proofs.page.router.Goals as goal
 
+pub loop-page-init : goal.loop-page-init
+loop-page-init c = rw c.new-router.ensures all_fill
+
+pub add-requires : goal.add-requires
+add-requires c = (fills_next pages_in_order c.loop-page.page-index Connectors c.loop-page.router c.loop-page-test.true c.loop-page.invariant).0
+
+pub loop-page-preserved : goal.loop-page-preserved
+loop-page-preserved c = rw c.in_ok-add.ensures (fills_next pages_in_order c.loop-page.page-index Connectors c.loop-page.router c.loop-page-test.true c.loop-page.invariant).1
+
 pub returns : goal.returns
-unfolding matchit_on_literals
-returns c =
-    rw (c.in_ok-insert-13.ensures.1, c.in_ok-insert-12.ensures.1, c.in_ok-insert-11.ensures.1, c.in_ok-insert-10.ensures.1, c.in_ok-insert-9.ensures.1, c.in_ok-insert-8.ensures.1, c.in_ok-insert-7.ensures.1, c.in_ok-insert-6.ensures.1, c.in_ok-insert-5.ensures.1, c.in_ok-insert-4.ensures.1, c.in_ok-insert-3.ensures.1, c.in_ok-insert-2.ensures.1, c.in_ok-insert.ensures.1, c.new-router.ensures) refl
+returns c = fills_all pages_in_order c.loop-page.page-index c.loop-page.router c.loop-page-test.false c.loop-page.invariant

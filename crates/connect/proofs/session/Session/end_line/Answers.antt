@@ -1,4 +1,4 @@
-use Rattle.std.proofs.Common.{List, ℕ, [], ◌∷◌, ◌++◌}
+use Rattle.std.proofs.Common.{[], ◌∷◌, ◌++◌}
 use Rattle.std.proofs.lemmas.Result.{err_from_is_err_and}
 use Rattle.connect.specs.Sessions.{Goes, StopsIn}
 use Rattle.connect.proofs.EndLemmas.{goes_then, moves_then, stops_in_then, stops_longer}

@@ -1,4 +1,4 @@
-use Rattle.std.proofs.Common.{◌≡◌, ◌∙◌, ◌+◌, ap, arith, cond, Bool, true, sym}
+use Rattle.std.proofs.Common.{◌≡◌, ◌∙◌, ◌+◌, ap, cond, Bool, true}
 use Rattle.cw_types.proofs.SameLemmas.{same_tid-Decides}
 use Rattle.std.proofs.Common.{refl}
 use Rattle.cw_types.specs.Same.{same_tid}

@@ -27,4 +27,5 @@ returns-in_ok-chains-in-Commit-clause-chains c entries kept =
     (subst (λ (l : List Span). IsSpanTest c.args.self.now.parts l c.in_ok-chains-in-Commit.chains) c.as_slice.ensures c.in_ok-chains-in-Commit.ensures.chains))
 
 pub returns-in_ok-make_rows-in-Set-clause-kept : goal.returns-in_ok-make_rows-in-Set-clause-kept
-returns-in_ok-make_rows-in-Set-clause-kept c entries kept = c.add.ensures.kept entries (Keeps-same c.args.self.now c.make_rows.new.self entries c.make_rows.ensures.same kept)
+returns-in_ok-make_rows-in-Set-clause-kept c entries kept =
+    subst (λ (e : Entry). Keeps c.add.new.self (entries ++ e ∷ [])) c.of-set.ensures (c.add.ensures.kept entries (Keeps-same c.args.self.now c.make_rows.new.self entries c.make_rows.ensures.same kept))
