@@ -8,3 +8,4 @@ pub mod Opened
 pub mod Appended
 pub mod OneReading
 pub mod Sides
+pub mod Replaced

@@ -29,9 +29,9 @@ unfolding header
 length-header kind side = refl
 
 -- a header that was just written
-pub new_head : (gate kind : ℕ) → IsHead kind (suc gate ∷ header kind 1)
+pub new_head : (gate kind side : ℕ) → IsHead kind (suc gate ∷ header kind side)
 unfolding header
-new_head gate kind = record { size = refl; «open» = omega arith; harmless = grind (arith, nat_tests) }
+new_head gate kind side = record { size = refl; «open» = omega arith; harmless = grind (arith, nat_tests) }
 
 pub gated_new : (kind : ℕ) (image : List ℕ) → IsGated 0 (0 ∷ []) (header kind 1 ++ 0 ∷ []) image → StandsFor kind [] image
 gated_new kind image (inl is) = inl (inr (first_same image (0 ∷ []) 1 (omega arith) is), refl)
@@ -39,4 +39,4 @@ gated_new kind image (inr is) = subst (StandsFor kind []) (sym is.1) (with_byte 
   where
     with_byte : (byte : ℕ) → StandsFor kind [] (byte ∷ (header kind 1 ++ 0 ∷ []))
     with_byte zero = inl (inr refl, refl)
-    with_byte (suc gate) = inr (record { head = suc gate ∷ header kind 1; front = []; rest = []; split = ap (λ (l : List ℕ). l ++ 0 ∷ []) (sym (append-nil (suc gate ∷ header kind 1))); is_head = new_head gate kind; frames = refl })
+    with_byte (suc gate) = inr (record { head = suc gate ∷ header kind 1; front = []; rest = []; split = ap (λ (l : List ℕ). l ++ 0 ∷ []) (sym (append-nil (suc gate ∷ header kind 1))); is_head = new_head gate kind 1; frames = refl })

@@ -94,7 +94,7 @@ stands_for_one kind xs ys file (inr a) (inr b) =
     frames_one xs ys a.front b.front a.rest b.rest a.frames b.frames (sym (behind_head file a.head a.front (0 ∷ a.rest) a.split a.is_head.size) ∙ behind_head file b.head b.front (0 ∷ b.rest) b.split b.is_head.size)
 
 -- a made file that stands for a list has no harm in its header
-made_harmless : (kind : ℕ) (bodies : List (List ℕ)) (file : List ℕ) → IsMade kind bodies file → harm_of_file kind file ≡ None
+pub made_harmless : (kind : ℕ) (bodies : List (List ℕ)) (file : List ℕ) → IsMade kind bodies file → harm_of_file kind file ≡ None
 made_harmless kind bodies file m =
     let long = made_long kind bodies file m in
     let none : harm_of_head kind (take 16 file) ≡ None = ap (harm_of_head kind) (first_bytes file m.head m.front (0 ∷ m.rest) m.split m.is_head.size) ∙ m.is_head.harmless in

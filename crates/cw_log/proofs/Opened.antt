@@ -104,15 +104,22 @@ trimmed gate file rest now within is cut =
     let same : take gate now ≡ take gate file = ap (take gate) front ∙ take_at (take gate file) (0 ∷ []) gate (omega (arith, length-take gate file)) in
     (front ∙ ap (λ (l : List ℕ). l ++ 0 ∷ []) (sym same), same)
 
--- a log that was just made
-pub new_kept : (kind : ℕ) → IsKept kind 16 [] (new_log kind)
-new_kept kind = record {
-  begins = begins_start (new_log kind) (omega (arith, length-append (header kind 1) (0 ∷ []), length-header kind 1));
-  is_head = subst (IsHead kind) (sym (take_at (1 ∷ header kind 1) (0 ∷ []) 16 (omega (arith, length-header kind 1)))) (new_head 0 kind);
+-- a log of no body
+pub empty_kept : (kind side : ℕ) → IsKept kind 16 [] (1 ∷ (header kind side ++ 0 ∷ []))
+empty_kept kind side = record {
+  begins = begins_start (1 ∷ (header kind side ++ 0 ∷ [])) (omega (arith, length-append (header kind side) (0 ∷ []), length-header kind side));
+  is_head = subst (IsHead kind) (sym (take_at (1 ∷ header kind side) (0 ∷ []) 16 (omega (arith, length-header kind side)))) (new_head 0 kind side);
 }
 
+pub empty_end : (kind side : ℕ) → 1 ∷ (header kind side ++ 0 ∷ []) ≡ take 16 (1 ∷ (header kind side ++ 0 ∷ [])) ++ 0 ∷ []
+empty_end kind side = ap (λ (l : List ℕ). l ++ 0 ∷ []) (sym (take_at (1 ∷ header kind side) (0 ∷ []) 16 (omega (arith, length-header kind side))))
+
+-- a log that was just made
+pub new_kept : (kind : ℕ) → IsKept kind 16 [] (new_log kind)
+new_kept kind = empty_kept kind 1
+
 pub new_end : (kind : ℕ) → new_log kind ≡ take 16 (new_log kind) ++ 0 ∷ []
-new_end kind = ap (λ (l : List ℕ). l ++ 0 ∷ []) (sym (take_at (1 ∷ header kind 1) (0 ∷ []) 16 (omega (arith, length-header kind 1))))
+new_end kind = empty_end kind 1
 
 pub is_none : {A : Type 0} (o : Option A) → ((a : A) → o ≡ Some a → ⊥) → o ≡ None
 is_none None never = refl

@@ -1,9 +1,9 @@
 -- Headers and side numbers.
-use Rattle.std.proofs.Common.{◌≡◌, ◌≤◌, ◌<◌, ℕ, ◌+◌, List, [], ◌∷◌, ◌++◌, Option, Some, None, option_map, length, take, drop, get_or, refl, sym, ◌∙◌, ap, subst, arith, length-append, append_assoc}
+use Rattle.std.proofs.Common.{◌≡◌, ◌≤◌, ◌<◌, ℕ, ◌+◌, List, [], ◌∷◌, ◌++◌, Option, Some, length, take, drop, get_or, refl, sym, ◌∙◌, ap, subst, arith, length-append, append_assoc}
 use Rattle.std.proofs.lemmas.List.{get_or-take, length-take, take-take, take_at, drop_at}
 use Rattle.cw_log.specs.declared.place.Place.{Place}
 use Rattle.cw_log.specs.Calls.{IsGated}
-use Rattle.cw_log.specs.Log.{Begins, EndsAtGate, HasHead, IsSide, byte_at, header, new_log, number_of}
+use Rattle.cw_log.specs.Log.{Begins, EndsAtGate, HasHead, IsSide, header, new_log, number_of}
 use Rattle.cw_log.specs.State.{IsKept}
 use Rattle.cw_log.proofs.Appended.{gated_front}
 use Rattle.cw_log.proofs.Opened.{gate_within}

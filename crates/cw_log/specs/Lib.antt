@@ -1,3 +1,4 @@
 pub mod Log
 pub mod Calls
 pub mod State
+pub mod Compaction

@@ -1,27 +1,36 @@
 // What may be wrong with a log, and with a call of it.
 use cw_disk::Failed;
 use std::alloc::{AllocError, AllocFailed};
+use std::fmt;
 use thiserror::Error;
 
 /// What may be wrong with the bytes of a log, in the order in which it is looked for on one disk; the
 /// last two are found by whoever reads the bodies.
-#[derive(Clone, Copy, Debug, PartialEq, Eq, Drop)]
+#[derive(Clone, Copy, Debug, PartialEq, Eq, Drop, Error)]
 pub enum Harm {
     /// The three letters behind the first gate are others.
+    #[error("it is no log")]
     Magic,
     /// The version is another.
+    #[error("its version is unknown")]
     Version,
     /// The file is one of another log.
+    #[error("it is another log")]
     Kind,
     /// Fewer than 17 bytes, or one of the two bytes that are 0 is not.
+    #[error("its header is broken")]
     Header,
     /// Two sides have one number.
+    #[error("both sides have one number")]
     SameSide,
     /// A frame's length is 0 or passes the end, or the file ends where a gate is due.
+    #[error("a frame is broken")]
     Length,
     /// A body is none of this log, or not allowed at its place.
+    #[error("a body isn't allowed at its place")]
     Content,
     /// A body breaks a fact over several logs.
+    #[error("a body breaks a fact over several logs")]
     Unsafe,
 }
 
@@ -29,7 +38,7 @@ pub enum Harm {
 #[derive(Clone, Copy, Debug, PartialEq, Eq, Drop, Error)]
 pub enum OpenCause {
     /// The first harm of the file, and the place of the gate that it is about.
-    #[error("damaged at byte {at}: {harm:?}")]
+    #[error("damaged at byte {at}: {harm}")]
     Damaged {
         /// The place of the gate.
         at: u64,
@@ -124,6 +133,23 @@ impl From<AllocError> for AppendFault {
     }
 }
 
+/// Why a log was not compacted.
+#[derive(Clone, Copy, Debug, PartialEq, Eq, Drop, Error)]
+pub enum CompactFault {
+    /// The other disk failed: its count rose. A stop may leave the old list or the new one.
+    #[error("the disk failed")]
+    Failed,
+    /// An earlier append or compaction of this log has failed.
+    #[error("an earlier append or compaction has failed")]
+    Shut,
+    /// The log's side number is the greatest there is.
+    #[error("there is no greater side number")]
+    Worn,
+    /// Want of memory.
+    #[error("out of memory")]
+    Memory,
+}
+
 /// Why a body was not read.
 #[derive(Clone, Copy, Debug, PartialEq, Eq, Drop, Error)]
 pub enum ReadFault {
@@ -175,4 +201,10 @@ pub struct OpenFault<D> {
     pub disk: D,
     /// Why it was not opened.
     pub cause: OpenCause,
+}
+
+impl<D> fmt::Display for OpenFault<D> {
+    fn fmt<W: fmt::Write>(&self, f: &mut fmt::Formatter<W>) -> fmt::Result {
+        write!(f, "{}", self.cause)
+    }
 }

@@ -8,9 +8,11 @@
 
 mod body_log;
 mod calls;
+mod compact;
 mod fault;
 mod find;
 mod frame;
+mod front;
 mod law;
 mod make;
 mod open;
@@ -24,10 +26,10 @@ mod visitor;
 mod window;
 
 pub use body_log::BodyLog;
-pub use fault::{AppendFault, Harm, OpenCause, OpenFault, ReadFault};
+pub use fault::{AppendFault, CompactFault, Harm, OpenCause, OpenFault, ReadFault};
+pub use front::{Front, look};
 pub use law::files_read_one_way;
 pub(crate) use place::{Frame, Frames, Place};
 pub use topic::TopicLog;
-pub use visitor::BodyVisitor;
-pub(crate) use visitor::Nobody;
+pub use visitor::{BodyVisitor, Nobody};
 pub(crate) use window::Window;

@@ -9,7 +9,7 @@ use crate::calls::{open_gate, put, shorten};
 use cw_disk::{Disk, Failed};
 
 // Leaves one byte 0 of an unmade file of this length.
-fn clear<D: Disk>(disk: &mut D, size: u64) -> Result<(), Failed>
+pub(crate) fn clear<D: Disk>(disk: &mut D, size: u64) -> Result<(), Failed>
     requires length { Told D.Disk disk.old (λ file. size ≡ length file) }
     requires unmade { Told D.Disk disk.old (λ file. IsUnmade file) }
     requires settled { Told D.Disk disk.old (λ file. Only file (D.may_leave disk.old)) }

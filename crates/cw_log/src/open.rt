@@ -15,7 +15,7 @@ use cw_types::Past;
 use std::alloc::Global;
 
 // The first 16 bytes, as far as there are so many.
-fn head_of<D: Disk>(disk: &mut D) -> Result<[u8; 16], Failed>
+pub(crate) fn head_of<D: Disk>(disk: &mut D) -> Result<[u8; 16], Failed>
     ensures first { IfOk result (λ head. Told D.Disk disk.old (λ file. 0 < length file → byte_at head 0 ≡
         byte_at file 0)) }
     ensures whole { IfOk result (λ head. Told D.Disk disk.old (λ file. 16 ≤ length file → head ≡ take 16 file)) }
@@ -28,7 +28,7 @@ fn head_of<D: Disk>(disk: &mut D) -> Result<[u8; 16], Failed>
 }
 
 // The first harm of a header.
-fn harm_in(kind: u8, head: &[u8]) -> Option<Harm>
+pub(crate) fn harm_in(kind: u8, head: &[u8]) -> Option<Harm>
     requires { length head.now ≡ 16 }
     ensures { result ≡ harm_of_head kind head.now }
 {
@@ -150,7 +150,7 @@ pub(crate) struct Found {
 }
 
 // The side number in a header.
-fn number_in(head: &[u8]) -> u64
+pub(crate) fn number_in(head: &[u8]) -> u64
     requires { length head.now ≡ 16 }
     ensures { result ≡ number_of head.now }
 {

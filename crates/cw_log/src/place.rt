@@ -1,5 +1,5 @@
 // Where the frames of a file lie, and what stands where one is due.
-ghost use Rattle.std.specs.Prelude.{◌≡◌, ◌≤◌, ◌<◌, ◌+◌, ◌^◌, [], ◌∷◌, ◌++◌, length, OnOk, slice_index_or};
+ghost use Rattle.std.specs.Prelude.{◌≡◌, ◌≤◌, ◌<◌, ◌+◌, ◌^◌, [], ◌∷◌, ◌++◌, None, length, OnOk, slice_index_or};
 
 use cw_types::Past;
 use std::alloc::AllocError;
@@ -97,6 +97,7 @@ impl Frames {
         ensures gate { self.new.gate ≡ self.old.gate + (length + 5) }
         ensures count { self.new.count ≡ self.old.count + 1 }
         ensures known { IsKnown self.old.known self.old.starts.items → IsKnown self.new.known self.new.starts.items }
+        ensures unknown { self.old.known ≡ None → self.new.known ≡ None }
     {
         if let Some(starts) = &mut self.known {
             push_start(starts, self.gate);

@@ -1,20 +1,23 @@
 // One log on one disk.
-ghost use Rattle.std.specs.Prelude.{◌≡◌, ◌⊎◌, ◌≤◌, ◌<◌, ◌+◌, ◌^◌, ◌++◌, ◌∷◌, [], List, ℕ, Option, Some, None, Bool, true, false, length, OnOk, OnErr, IfOk, IfErr, MatchResult, option_map, is_some, is_ok, is_err, if◌then◌else◌, slice_index_or};
-ghost use Rattle.cw_disk.specs.Told.{Adds, Reads, Told};
+ghost use Rattle.std.specs.Prelude.{◌≡◌, ◌⊎◌, ◌≤◌, ◌<◌, ◌+◌, ◌-◌, ◌^◌, ◌++◌, ◌∷◌, [], All, List, ℕ, Option, Some, None, Bool, true, false, length, OnOk, OnErr, IfOk, IfErr, MatchResult, option_map, is_some, is_ok, is_err, if◌then◌else◌, slice_index_or};
+ghost use Rattle.cw_disk.specs.Told.{Adds, Reads, Settled, Told};
 ghost use Rattle.cw_disk.specs.Disk.{Only};
 ghost use Rattle.cw_types.specs.Faults.{Rose};
-ghost use Rattle.cw_log.specs.Log.{StandsFor, StandAlike, BeforeOrAfter, HasHead, IsDamaged, IsSide, OnCause, OpensAs, byte_at, kind_of, length_of};
+ghost use Rattle.cw_log.specs.Log.{StandsFor, StandAlike, BeforeOrAfter, HasHead, IsBody, IsDamaged, IsSide, OnCause, OpensAs, byte_at, kind_of, length_of};
 ghost use Rattle.cw_log.specs.State.{LogState, OnAppendFault, OnReadFault, OpensTo, IsSameLog, HasSameList, IsAppendable};
+ghost use Rattle.cw_log.specs.Compaction.{IsCompactable, IsReplaced, OnCompactFault, bodies_in};
 
 use crate::calls::prepare;
+use crate::compact::replace;
 use crate::find::read_one;
 use crate::frame::write_frame;
 use crate::open::opened;
-use crate::{AppendFault, BodyVisitor, Frames, Nobody, OpenFault, ReadFault, Window};
+use crate::{AppendFault, BodyVisitor, CompactFault, Frames, Nobody, OpenFault, ReadFault, Window};
 use cw_disk::{Disk, Failed, Memory};
 use cw_types::LogName;
 use std::alloc::Global;
 use std::marker::Model;
+use std::mem::swap;
 
 /// A log of bodies on one disk. Whatever moment a stop comes at, what is found again is the list before
 /// the append in hand or after it, and never less than what was acknowledged.
@@ -257,6 +260,70 @@ impl<D: Disk> TopicLog<D> {
         Ok(self.frames.count() - 1)
     }
 
+    /// Makes another disk, on which nothing is pending, a log of these bodies with the next side number, and changes
+    /// over to it; `other` is then the disk that this log had. That disk isn't touched: the new log is written whole
+    /// and synced before its first gate is opened. `Shut` comes where an earlier call has failed, else `Worn` where
+    /// there is no next side number. Each body has 1 to 2^32 - 1 bytes, and together they fit into 64 bits.
+    pub fn compact_onto(&mut self, other: &mut D, bodies: &Vec<Vec<u8>>) -> Result<(), CompactFault>
+        requires settled { self.old.shut ≡ false → Settled D.Disk other.old }
+        requires bodies { All IsBody (bodies_in bodies.now.items) }
+        requires fits { length_of (bodies_in bodies.now.items) < 2 ^ 64 }
+
+        ensures bodies { OnOk result (self.new.bodies ≡ option_map
+            (λ _. bodies_in bodies.now.items) (D.holds other.old)) }
+        ensures count { OnOk result (self.new.count ≡ length bodies.now.items) }
+        ensures length { OnOk result (self.new.length ≡ length_of (bodies_in bodies.now.items)) }
+        ensures number { OnOk result (self.new.number ≡ self.old.number + 1) }
+        ensures alive { OnOk result ((self.old.shut ≡ false) × (self.new.shut ≡ false)) }
+        ensures other { OnOk result (other.new ≡ self.old.disk) }
+        ensures settled { OnOk result (Settled D.Disk other.new) }
+
+        // Shut exactly where it is due, else Worn exactly where it is due; Failed only where the other disk's count
+        // rose.
+        ensures fault { IfErr result (OnCompactFault
+            (IsCompactable self.old × (self.new ≡ record self.old { shut = true }) ×
+            Rose (D.count other.old) (D.count other.new))
+            ((self.old.shut ≡ true) × (self.new ≡ self.old) × (other.new ≡ other.old))
+            ((self.old.shut ≡ false) × (self.old.number ≡ 2 ^ 64 - 1) × (self.new ≡ self.old) × (other.new ≡ other.old))
+            (IsCompactable self.old × (self.new ≡ self.old) × Reads D.Disk other.old other.new)) }
+        ensures kind { self.new.kind ≡ self.old.kind }
+        ensures limit { self.new.limit ≡ self.old.limit }
+        ensures failed { self.new.failed ≡ self.old.failed }
+        ensures told { MatchResult result (λ _. is_some (D.holds self.new.disk) ≡ is_some (D.holds other.old))
+            (λ _. is_some (D.holds other.new) ≡ is_some (D.holds other.old)) }
+        ensures later { MatchResult result (λ _. D.count other.old ≤ D.count self.new.disk)
+            (λ _. D.count other.old ≤ D.count other.new) }
+
+        // What a stop at any moment of the call leaves of the other disk; this log's disk stands still.
+        ensures any_moment { self.old.shut ≡ false → Told D.Disk other.old (λ file. MatchResult result
+            (λ _. Adds D.Disk other.old self.new.disk
+            (IsReplaced self.old.kind (self.old.number + 1) (bodies_in bodies.now.items) file))
+            (λ _. Adds D.Disk other.old other.new
+            (IsReplaced self.old.kind (self.old.number + 1) (bodies_in bodies.now.items) file))) }
+    {
+        if self.shut {
+            return Err(CompactFault::Shut);
+        }
+        if self.number == u64::MAX {
+            return Err(CompactFault::Worn);
+        }
+        match replace(self.alloc, other, self.kind, self.number + 1, bodies) {
+            Ok(frames) => {
+                swap(&mut self.disk, other);
+                self.number += 1;
+                self.frames = frames;
+                let _ = self.ahead.take();
+                self.ready = 0;
+                Ok(())
+            }
+            Err(ReadFault::Memory) => Err(CompactFault::Memory),
+            Err(ReadFault::Failed) => {
+                self.shut = true;
+                Err(CompactFault::Failed)
+            }
+        }
+    }
+
     /// The side number in its header, which is 1 in a log that was made by an opening.
     #[inline]
     pub fn number(&self) -> u64
@@ -338,6 +405,7 @@ impl<D: Disk> TopicLog<D> {
             (image : List ℕ) → D.may_leave self.now.disk image → IsSide self.now.number image }
         ensures count { (bodies : List (List ℕ)) → self.now.bodies ≡ Some bodies → self.now.count ≡ length bodies }
         ensures size { (bodies : List (List ℕ)) → self.now.bodies ≡ Some bodies → self.now.length ≡ length_of bodies }
+        ensures told { is_some self.now.bodies ≡ is_some (D.holds self.now.disk) }
     {
         let _ = &self.disk;
     }
@@ -399,7 +467,7 @@ impl<D: Disk> TopicLog<D> {
 }
 
 // The number of a log's kind.
-fn kind_number(name: LogName) -> u8
+pub(crate) fn kind_number(name: LogName) -> u8
     ensures { result ≡ kind_of name }
 {
     match name {

@@ -23,7 +23,7 @@ pub trait BodyVisitor {
 
 /// Nobody, to whom no body tells anything.
 #[derive(Drop)]
-pub(crate) struct Nobody;
+pub struct Nobody;
 
 impl BodyVisitor for Nobody {
     ghost has_seen = { λ _ _. Unit {0} };

@@ -1,4 +1,4 @@
-use Rattle.std.proofs.Common.{◌≡◌, ◌≤◌, ◌++◌, ◌∷◌, inr, List, ℕ, Some, length, sym, ◌∙◌, ap, arith, length-append}
+use Rattle.std.proofs.Common.{◌≤◌, ◌++◌, ◌∷◌, inr, List, ℕ, length, sym, ◌∙◌, ap, arith, length-append}
 use Rattle.cw_log.specs.Log.{IsSide, new_log, number_of}
 use Rattle.cw_log.proofs.Gates.{told_before}
 use Rattle.cw_log.proofs.Sides.{new_number, number_take}

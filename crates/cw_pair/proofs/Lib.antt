@@ -1,0 +1,4 @@
+pub mod Harms
+pub mod Judged
+pub mod Pairs
+pub mod Stretches
