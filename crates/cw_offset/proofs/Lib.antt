@@ -1,7 +1,13 @@
 pub mod Bodies
-pub mod Marks
-pub mod Waits
-pub mod Lasts
+pub mod Stays
+pub mod Replays
+pub mod Compacted
+pub mod Same
+pub mod Pushed
 pub mod Kept
 pub mod Done
-pub mod Stays
+pub mod Rooms
+pub mod Changed
+pub mod Made
+pub mod Firsts
+pub mod Places

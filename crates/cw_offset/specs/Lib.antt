@@ -1,5 +1,6 @@
 pub mod Offsets
 pub mod Calls
+pub mod Rows
 pub mod Tables
 pub mod Body
 pub mod BodyReading

@@ -8,6 +8,8 @@ use std::alloc::AllocError;
 /// A call that changes what is committed of parts.
 #[derive(Debug, Drop)]
 pub enum OffsetCall {
+    /// A transaction's records stand in the log, behind those of all that were told of before.
+    Stand(Tag),
     /// An offset record was stored under a transaction, and waits for its mark.
     Put {
         /// The transaction.
@@ -33,6 +35,8 @@ pub enum OffsetCall {
 /// A call that is borrowed in parts.
 #[derive(Debug, Clone, Copy, Drop)]
 pub enum CallRef<'a> {
+    /// As `OffsetCall::Stand`.
+    Stand(&'a Tag),
     /// As `OffsetCall::Put`.
     Put {
         /// The transaction.
@@ -61,6 +65,7 @@ impl CallRef<'_> {
         ensures { IfOk result (λ call. call ≡ call_of self.now) }
     {
         match self {
+            CallRef::Stand(tag) => Ok(OffsetCall::Stand(tag.copy()?)),
             CallRef::Put { tag, part, to } => Ok(OffsetCall::Put {
                 tag: tag.copy()?,
                 part: part.copy()?,
@@ -80,6 +85,7 @@ impl CallRef<'_> {
         ensures { IsTrue result ↔ (call.now ≡ call_of self.now) }
     {
         match (self, call) {
+            (CallRef::Stand(tag), OffsetCall::Stand(other)) => same_tags(tag, other),
             (
                 CallRef::Put { tag, part, to },
                 OffsetCall::Put {

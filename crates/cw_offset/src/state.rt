@@ -1,26 +1,27 @@
 //! Committed offsets of parts.
-ghost use Rattle.std.specs.Prelude.{◌≡◌, ◌≤◌, ◌<◌, ◌+◌, [], ◌∷◌, ◌++◌, List, length, Contains, OnOk, OnErr, IsOk, MatchOption, option_copied, vec_len, vec_capacity};
-ghost use Rattle.cw_types.specs.declared.ids.PartKey.{PartKey};
+ghost use Rattle.std.specs.Prelude.{◌≡◌, [], ◌∷◌, ◌++◌, Contains, OnOk, OnErr, IsOk, MatchOption, option_copied};
 ghost use Rattle.cw_offset.specs.declared.call.OffsetCall.{OffsetCall};
 ghost use Rattle.cw_offset.specs.Offsets.{committed, first_unmarked};
 
 use crate::call::{CallRef, OffsetCall};
 use crate::tables::{Tables, first_ended};
-use cw_types::{Decided, PartKey, Tag};
+use cw_types::{Decided, PartKey, Past, Tag};
 use std::alloc::{AllocError, Global};
 use std::marker::Model;
+use std::mem::replace;
 
-/// What is committed of each part, and what waits under transactions (KIP-618).
+/// What is committed of each part, and what waits under transactions (KIP-618). Clauses see the calls made so
+/// far; at run time it keeps one value a part, and of each transaction that waits the last put of each part.
 /// Look-ups take no memory and never walk the calls.
 #[derive(Drop)]
 pub struct OffsetState {
-    calls: Vec<OffsetCall>,
+    alloc: Global,
+    calls: Past<OffsetCall>,
     reserved: Vec<OffsetCall>,
     tables: Tables,
 }
 
 impl Model for OffsetState {
-    ghost use Rattle.std.specs.Prelude.{vec_capacity};
     ghost use Rattle.cw_offset.specs.Calls.{Calls};
 
     ghost Value = { Calls };
@@ -29,8 +30,7 @@ impl Model for OffsetState {
 
     ghost view = { λ a. record { calls = a.calls.items; reserved = a.reserved.items } };
 
-    ghost invariant = { λ a.
-        IsOffsets a.tables a.calls.items a.reserved.items (vec_capacity a.calls) (vec_capacity a.tables.waiting) };
+    ghost invariant = { λ a. IsOffsets a.tables a.calls.items a.reserved.items };
 }
 
 impl OffsetState {
@@ -41,7 +41,8 @@ impl OffsetState {
         ensures { result ≡ record { calls = []; reserved = [] } }
     {
         OffsetState {
-            calls: Vec::new(alloc),
+            alloc,
+            calls: Past::new(),
             reserved: Vec::new(alloc),
             tables: Tables::new(alloc),
         }
@@ -58,11 +59,22 @@ impl OffsetState {
         }
     }
 
-    /// The first transaction, by the place of its first put, that has ended and waits for its mark.
+    /// The first transaction that has ended and waits for its mark, in the order in which `stand` and `put` told
+    /// of them.
     pub fn first_unmarked<T: Decided>(&self, txn: &T) -> Option<&Tag>
         ensures { option_copied result ≡ first_unmarked (T.verdict_of txn.now) self.now.calls }
     {
-        first_ended(self.calls.as_slice(), self.tables.waiting.as_slice(), txn)
+        first_ended(&self.tables.order, txn)
+    }
+
+    /// Tells that a transaction's records stand in the log, behind those of all that were told of before. An
+    /// opening tells so of each in the log's order, before it makes the calls of the transaction list.
+    pub fn stand(&mut self, tag: &Tag) -> Result<(), AllocError>
+        ensures ok { OnOk result (Does (OffsetCall.Stand tag.now) self.old self.new) }
+        ensures err { OnErr result (self.new ≡ self.old) }
+        ensures reserved { Contains self.old.reserved (OffsetCall.Stand tag.now) → IsOk result }
+    {
+        self.call(&CallRef::Stand(tag))
     }
 
     /// Stores an offset of a part under a transaction. It waits for the transaction's mark.
@@ -99,6 +111,17 @@ impl OffsetState {
         ensures reserved { Contains self.old.reserved (OffsetCall.Set part.now to) → IsOk result }
     {
         self.call(&CallRef::Set { part, to })
+    }
+
+    /// Makes room for a `stand`, so that making it once can't want memory.
+    pub fn reserve_stand(&mut self, tag: &Tag) -> Result<(), AllocError>
+        ensures ok { OnOk result (self.new ≡ record self.old {
+          reserved =
+              self.old.reserved ++ OffsetCall.Stand tag.now ∷ [];
+        }) }
+        ensures err { OnErr result (self.new ≡ self.old) }
+    {
+        self.reserve(&CallRef::Stand(tag))
     }
 
     /// Makes room for a `put`, so that making it once can't want memory.
@@ -149,7 +172,18 @@ impl OffsetState {
     pub fn unreserve(&mut self)
         ensures { self.new ≡ record self.old { reserved = [] } }
     {
-        self.reserved.clear();
+        let reserved = replace(&mut self.reserved, Vec::new(self.alloc));
+        for call in reserved {
+            self.forget_call(&call);
+        }
+    }
+
+    // Gives up the row of a transaction for which room was made, unless something of it waits.
+    fn forget_call(&mut self, call: &OffsetCall)
+        requires { self.old.reserved ≡ [] }
+        ensures { self.new ≡ self.old }
+    {
+        self.tables.forget_call(call);
     }
 
     ghost use Rattle.cw_offset.specs.Tables.{call_of};
@@ -161,8 +195,8 @@ impl OffsetState {
         }) }
         ensures err { OnErr result (self.new ≡ self.old) }
     {
-        let room = self.reserved.len() + 1;
-        make_room(&mut self.tables, &mut self.calls, room, call)?;
+        self.tables
+            .make_room(self.alloc, self.reserved.len(), call)?;
         self.reserved.push(call.to_call()?)?;
         Ok(())
     }
@@ -175,17 +209,32 @@ impl OffsetState {
     {
         if let Some(at) = place_of(&self.reserved, call) {
             let reserved = self.reserved.remove(at);
-            add(&mut self.tables, &mut self.calls, reserved);
+            self.tables.add(&mut self.calls, reserved);
+            self.forget_marked(call);
             return Ok(());
         }
-        let room = self.reserved.len() + 1;
-        make_room(&mut self.tables, &mut self.calls, room, call)?;
-        add(&mut self.tables, &mut self.calls, call.to_call()?);
+        self.tables
+            .make_room(self.alloc, self.reserved.len(), call)?;
+        self.tables.add(&mut self.calls, call.to_call()?);
+        self.forget_marked(call);
         Ok(())
+    }
+
+    // Gives up the row of a transaction that was marked, unless something is reserved that may want it.
+    fn forget_marked(&mut self, call: &CallRef<'_>)
+        ensures { self.new ≡ self.old }
+    {
+        if !self.reserved.is_empty() {
+            return;
+        }
+        match call {
+            CallRef::Commit(tag) | CallRef::Abort(tag) => self.tables.forget(tag),
+            _ => {}
+        }
     }
 }
 
-ghost use Rattle.cw_offset.specs.Tables.{call_of, settled_at, IsFirstAt, Keeps, HasPart, HasRow, HaveRows};
+ghost use Rattle.cw_offset.specs.Tables.{call_of, IsFirstAt};
 
 // The first place of a call in a list.
 fn place_of(calls: &[OffsetCall], call: &CallRef<'_>) -> Option<usize>
@@ -198,46 +247,4 @@ fn place_of(calls: &[OffsetCall], call: &CallRef<'_>) -> Option<usize>
         }
     }
     None
-}
-
-// A row for a call, which changes no meaning, and places for so many calls more.
-fn make_room(
-    tables: &mut Tables,
-    calls: &mut Vec<OffsetCall>,
-    more: usize,
-    call: &CallRef<'_>,
-) -> Result<(), AllocError>
-    ensures calls { calls.new.items ≡ calls.old.items }
-    ensures waiting { tables.new.waiting.items ≡ tables.old.waiting.items }
-    ensures room { vec_capacity calls.old ≤ vec_capacity calls.new }
-    ensures waiting_room { vec_capacity tables.old.waiting ≤ vec_capacity tables.new.waiting }
-    ensures more { OnOk result (vec_len calls.new + more ≤ vec_capacity calls.new) }
-    ensures waiting_more { OnOk result (vec_len tables.new.waiting + more ≤ vec_capacity tables.new.waiting) }
-    ensures same { (part : PartKey) → settled_at tables.new.parts part ≡ settled_at tables.old.parts part }
-    ensures kept { (part : PartKey) → HasPart tables.old.parts part → HasPart tables.new.parts part }
-    ensures there { OnOk result (HasRow tables.new.parts (call_of call.now)) }
-{
-    tables.make_rows(call)?;
-    tables.waiting.reserve(more)?;
-    calls.reserve(more)
-}
-
-// Adds a call for which there is room.
-fn add(tables: &mut Tables, calls: &mut Vec<OffsetCall>, call: OffsetCall)
-    requires room { vec_len calls.old < vec_capacity calls.old }
-    requires waiting_room { vec_len tables.old.waiting < vec_capacity tables.old.waiting }
-    requires row { HasRow tables.old.parts call }
-    requires rows { HaveRows tables.old.parts calls.old.items }
-    requires kept { Keeps tables.old calls.old.items }
-    ensures pushed { calls.new.items ≡ calls.old.items ++ call ∷ [] }
-    ensures room { vec_capacity calls.old ≤ vec_capacity calls.new }
-    ensures waiting_room { vec_capacity tables.old.waiting ≤ vec_capacity tables.new.waiting }
-    ensures waiting_len { vec_len tables.new.waiting ≤ vec_len tables.old.waiting + 1 }
-    ensures kept { Keeps tables.new calls.new.items }
-    ensures rows { (part : PartKey) → HasPart tables.old.parts part → HasPart tables.new.parts part }
-{
-    tables.add(calls.as_slice(), &call);
-    if calls.push(call).is_err() {
-        unreachable!();
-    }
 }

@@ -1,43 +1,43 @@
 //! What is kept of the calls, so that no look-up walks them.
-ghost use Rattle.std.specs.Prelude.{◌≡◌, ◌≤◌, ◌<◌, ◌+◌, ◌&&◌, ◌++◌, ◌∷◌, [], not, length, OnOk, Some, None, option_copied, slice_get, vec_len, vec_capacity, if◌then◌else◌};
-ghost use Rattle.std.specs.List.{fold, find, filter, filter_map};
+ghost use Rattle.std.specs.Prelude.{◌≡◌, ◌≤◌, ◌<◌, ◌+◌, ◌^◌, ◌++◌, ◌∷◌, [], ℕ, ◌==◌, false, OnOk, IsSome, Some, None, is_none, option_copied, option_map, if◌then◌else◌};
+ghost use Rattle.std.specs.BTreeMap.{get, values, IsOrdered};
+ghost use Rattle.std.specs.Ordering.{nat_cmp};
+ghost use Rattle.cw_types.specs.declared.ids.Tag.{Tag};
 ghost use Rattle.cw_types.specs.declared.ids.PartKey.{PartKey};
 ghost use Rattle.cw_types.specs.Same.{same_tag, same_part};
-ghost use Rattle.cw_types.specs.Verdict.{has_ended};
 
 use crate::call::{CallRef, OffsetCall};
+use crate::under::{Settled, Under};
 use cw_tables::{has_row, make_row, set_row, value_at};
-use cw_types::{Decided, PartKey, Tag, Verdict};
+use cw_types::{Decided, PartKey, Past, Tag, Verdict};
 use std::alloc::{AllocError, Global};
 use std::collections::BTreeMap;
 
-/// What is committed of a part: the value of a set or of a committed put, and the place of that call.
-#[derive(Clone, Copy, Debug, PartialEq, Eq, Drop)]
-pub struct Settled {
-    /// The place among all calls.
-    pub place: usize,
-    /// The value.
-    pub to: Option<u64>,
-}
-
-/// What each part has, and the places of the puts that wait, the oldest first.
+/// What each part has, what waits under each transaction, and where in the log each that waits begins.
 #[derive(Drop)]
 pub struct Tables {
     pub parts: BTreeMap<PartKey, Option<Settled>>,
-    pub waiting: Vec<usize>,
+    pub waiting: BTreeMap<Tag, Under>,
+    pub order: BTreeMap<u64, Option<Tag>>,
+    pub next: u64,
 }
 
 impl Tables {
-    ghost use Rattle.cw_offset.specs.Tables.{call_of, settled_at, Keeps, HasPart, HasRow, HaveRows};
+    ghost use Rattle.std.specs.Prelude.{List};
+    ghost use Rattle.cw_offset.specs.declared.call.OffsetCall.{OffsetCall};
+    ghost use Rattle.cw_offset.specs.Rows.{settled_at, HasPart};
+    ghost use Rattle.cw_offset.specs.Tables.{call_of, under_at, Keeps, HasRows, HasRoom, HasUnder, HasPartIn, Uses, Roomier, BacksParts, StandsBefore};
 
-    /// With no row, and nothing that waits.
+    /// With no row.
     pub fn new(alloc: Global) -> Tables
         ensures kept { Keeps result [] }
-        ensures waiting { result.waiting.items ≡ [] }
+        ensures room { HasRoom result [] }
     {
         Tables {
             parts: BTreeMap::new(alloc),
-            waiting: Vec::new(alloc),
+            waiting: BTreeMap::new(alloc),
+            order: BTreeMap::new(alloc),
+            next: 0,
         }
     }
 
@@ -48,54 +48,179 @@ impl Tables {
         value_at(&self.parts, part, None)
     }
 
-    /// The row that a call may change, reading as before.
-    pub fn make_rows(&mut self, call: &CallRef<'_>) -> Result<(), AllocError>
-        ensures same { (part : PartKey) → settled_at self.new.parts part ≡ settled_at self.old.parts part }
-        ensures kept { (part : PartKey) → HasPart self.old.parts part → HasPart self.new.parts part }
-        ensures there { OnOk result (HasRow self.new.parts (call_of call.now)) }
-        ensures waiting { self.new.waiting ≡ self.old.waiting }
+    /// The rows that a call may change, and a place for it behind those that are reserved. All reads as before.
+    pub fn make_room(
+        &mut self,
+        alloc: Global,
+        reserved: usize,
+        call: &CallRef<'_>,
+    ) -> Result<(), AllocError>
+        ensures roomier { Roomier self.old self.new }
+        ensures rows { OnOk result (HasRows self.new (call_of call.now)) }
+        ensures place { OnOk result (IsSome (get nat_cmp self.new.order (self.old.next + reserved))) }
+        ensures small { OnOk result (self.old.next + reserved + 1 < 2 ^ 64) }
+    {
+        make_place(&mut self.order, self.next, reserved)?;
+        self.make_rows(alloc, call)
+    }
+
+    fn make_rows(&mut self, alloc: Global, call: &CallRef<'_>) -> Result<(), AllocError>
+        ensures roomier { Roomier self.old self.new }
+        ensures rows { OnOk result (HasRows self.new (call_of call.now)) }
+        ensures order { self.new.order ≡ self.old.order }
     {
         match call {
-            CallRef::Put { part, .. } => make_part(&mut self.parts, part),
+            CallRef::Stand(tag) => self.make_under(alloc, tag),
+            CallRef::Put { tag, part, .. } => {
+                self.make_part(part)?;
+                self.make_under(alloc, tag)?;
+                self.make_part_under(tag, part)
+            }
             CallRef::Commit(_) => Ok(()),
             CallRef::Abort(_) => Ok(()),
-            CallRef::Set { part, .. } => make_part(&mut self.parts, part),
+            CallRef::Set { part, .. } => self.make_part(part),
         }
     }
 
-    /// One call more, behind these.
-    pub fn add(&mut self, calls: &[OffsetCall], call: &OffsetCall)
-        requires row { HasRow self.old.parts call.now }
-        requires rows { HaveRows self.old.parts calls.now }
-        requires room { vec_len self.old.waiting < vec_capacity self.old.waiting }
-        requires kept { Keeps self.old calls.now }
-        ensures kept { Keeps self.new (calls.now ++ call.now ∷ []) }
-        ensures rows { (part : PartKey) → HasPart self.old.parts part → HasPart self.new.parts part }
-        ensures room { vec_capacity self.old.waiting ≤ vec_capacity self.new.waiting }
-        ensures len { vec_len self.new.waiting ≤ vec_len self.old.waiting + 1 }
+    fn make_part(&mut self, part: &PartKey) -> Result<(), AllocError>
+        ensures roomier { Roomier self.old self.new }
+        ensures there { OnOk result (HasPart self.new.parts part.now) }
+        ensures order { self.new.order ≡ self.old.order }
+    {
+        make_part(&mut self.parts, part)
+    }
+
+    fn make_under(&mut self, alloc: Global, tag: &Tag) -> Result<(), AllocError>
+        ensures roomier { Roomier self.old self.new }
+        ensures there { OnOk result (HasUnder self.new.waiting tag.now) }
+        ensures order { self.new.order ≡ self.old.order }
+    {
+        make_under(alloc, &mut self.waiting, tag)
+    }
+
+    fn make_part_under(&mut self, tag: &Tag, part: &PartKey) -> Result<(), AllocError>
+        requires part { HasPart self.old.parts part.now }
+        requires under { HasUnder self.old.waiting tag.now }
+        ensures roomier { Roomier self.old self.new }
+        ensures there { OnOk result (HasPartIn (under_at self.new.waiting tag.now) part.now) }
+        ensures order { self.new.order ≡ self.old.order }
+    {
+        make_part_under(&mut self.waiting, tag, part)
+    }
+
+    /// One call more, for which there is room.
+    pub fn add(&mut self, calls: &mut Past<OffsetCall>, call: OffsetCall)
+        requires room { HasRoom self.old (call ∷ []) }
+        requires kept { Keeps self.old calls.old.items }
+        ensures pushed { calls.new.items ≡ calls.old.items ++ call ∷ [] }
+        ensures kept { Keeps self.new calls.new.items }
+        ensures room { (front back : List OffsetCall) → HasRoom self.old (front ++ call ∷ back) →
+            HasRoom self.new (front ++ back) }
+    {
+        *calls = calls.and(&call);
+        match call {
+            OffsetCall::Stand(tag) => self.stand(tag),
+            OffsetCall::Put { tag, part, to } => self.put(tag, &part, to),
+            OffsetCall::Commit(tag) => self.commit(&tag),
+            OffsetCall::Abort(tag) => self.abort(&tag),
+            OffsetCall::Set { part, to } => self.set(&part, to),
+        }
+    }
+
+    fn stand(&mut self, tag: Tag)
+        requires { HasRoom self.old (OffsetCall.Stand tag ∷ []) }
+        ensures kept { (calls : List OffsetCall) → Keeps self.old calls →
+            Keeps self.new (calls ++ OffsetCall.Stand tag ∷ []) }
+        ensures room { Uses self.old self.new }
+    {
+        let begins = begin_at(&mut self.waiting, &tag, self.next);
+        fill_place(&mut self.order, self.next, tag, begins);
+        self.next += 1;
+    }
+
+    fn put(&mut self, tag: Tag, part: &PartKey, to: u64)
+        requires { HasRoom self.old (OffsetCall.Put tag part.now to ∷ []) }
+        ensures kept { (calls : List OffsetCall) → Keeps self.old calls →
+            Keeps self.new (calls ++ OffsetCall.Put tag part.now to ∷ []) }
+        ensures room { Uses self.old self.new }
+    {
+        let begins = begin_at(&mut self.waiting, &tag, self.next);
+        put_under(&mut self.waiting, &tag, self.next, part, to);
+        fill_place(&mut self.order, self.next, tag, begins);
+        self.next += 1;
+    }
+
+    fn commit(&mut self, tag: &Tag)
+        requires room { HasRoom self.old (OffsetCall.Commit tag.now ∷ []) }
+        requires before { StandsBefore self.old tag.now }
+        requires backed { BacksParts self.old tag.now }
+        ensures kept { (calls : List OffsetCall) → Keeps self.old calls →
+            Keeps self.new (calls ++ OffsetCall.Commit tag.now ∷ []) }
+        ensures room { Uses self.old self.new }
+    {
+        settle_under(&mut self.parts, &self.waiting, tag);
+        let first = end_at(&mut self.waiting, tag);
+        empty_place(&mut self.order, first);
+        empty_place(&mut self.order, Some(self.next));
+        self.next += 1;
+    }
+
+    fn abort(&mut self, tag: &Tag)
+        requires room { HasRoom self.old (OffsetCall.Abort tag.now ∷ []) }
+        requires before { StandsBefore self.old tag.now }
+        ensures kept { (calls : List OffsetCall) → Keeps self.old calls →
+            Keeps self.new (calls ++ OffsetCall.Abort tag.now ∷ []) }
+        ensures room { Uses self.old self.new }
+    {
+        let first = end_at(&mut self.waiting, tag);
+        empty_place(&mut self.order, first);
+        empty_place(&mut self.order, Some(self.next));
+        self.next += 1;
+    }
+
+    fn set(&mut self, part: &PartKey, to: Option<u64>)
+        requires { HasRoom self.old (OffsetCall.Set part.now to ∷ []) }
+        ensures kept { (calls : List OffsetCall) → Keeps self.old calls →
+            Keeps self.new (calls ++ OffsetCall.Set part.now to ∷ []) }
+        ensures room { Uses self.old self.new }
+    {
+        let settled = Settled {
+            place: self.next,
+            to,
+        };
+        set_row(&mut self.parts, part, Some(settled));
+        empty_place(&mut self.order, Some(self.next));
+        self.next += 1;
+    }
+
+    /// Gives up the row of a transaction of which nothing waits. All reads as before.
+    pub fn forget(&mut self, tag: &Tag)
+        ensures kept { (calls : List OffsetCall) → Keeps self.old calls → Keeps self.new calls }
+        ensures room { HasRoom self.old [] → HasRoom self.new [] }
+    {
+        if is_past(&self.waiting, tag) {
+            self.waiting.remove(tag);
+        }
+    }
+
+    /// The same for that of a call.
+    pub fn forget_call(&mut self, call: &OffsetCall)
+        ensures kept { (calls : List OffsetCall) → Keeps self.old calls → Keeps self.new calls }
+        ensures room { HasRoom self.old [] → HasRoom self.new [] }
     {
         match call {
-            OffsetCall::Put { .. } => push_made(&mut self.waiting, calls.len()),
-            OffsetCall::Commit(tag) => {
-                settle_all(&mut self.parts, calls, self.waiting.as_slice(), tag);
-                take_out(&mut self.waiting, calls, tag);
-            }
-            OffsetCall::Abort(tag) => take_out(&mut self.waiting, calls, tag),
-            OffsetCall::Set { part, to } => {
-                let settled = Settled {
-                    place: calls.len(),
-                    to: *to,
-                };
-                set_row(&mut self.parts, part, Some(settled));
-            }
+            OffsetCall::Stand(tag) => self.forget(tag),
+            OffsetCall::Put { tag, .. } => self.forget(tag),
+            _ => {}
         }
     }
 }
 
-ghost use Rattle.cw_offset.specs.Tables.{value_at, settled_at, is_put_of, is_behind, after_place, tag_in, if_ended, HasPart, HaveRows};
-ghost use Rattle.cw_types.specs.declared.ids.Tag.{Tag};
-ghost use Rattle.cw_offset.specs.declared.call.OffsetCall.{OffsetCall};
+ghost use Rattle.cw_offset.specs.declared.under.Under.{Under};
+ghost use Rattle.cw_offset.specs.Rows.{settled_at, waits_in, later, begun, ended, HasPart};
+ghost use Rattle.cw_offset.specs.Tables.{first_in, put_in, under_at, stands_at, is_place, first_ended, if_ended, IsFresh, Changes, Puts, MakesRows, HasUnder, HasPartIn};
 
+// A row of a part, which reads as none where it is new.
 fn make_part(
     parts: &mut BTreeMap<PartKey, Option<Settled>>,
     part: &PartKey,
@@ -110,161 +235,205 @@ fn make_part(
     make_row(parts, part.copy()?, None)
 }
 
-// Pushes into room that is there.
-fn push_made(places: &mut Vec<usize>, place: usize)
-    requires { vec_len places.old < vec_capacity places.old }
-    ensures pushed { places.new.items ≡ places.old.items ++ place ∷ [] }
-    ensures room { vec_capacity places.old ≤ vec_capacity places.new }
+// A row of a transaction, under which nothing waits where it is new.
+fn make_under(
+    alloc: Global,
+    waiting: &mut BTreeMap<Tag, Under>,
+    tag: &Tag,
+) -> Result<(), AllocError>
+    ensures kept { (q : Tag) → HasUnder waiting.old q → under_at waiting.new q ≡ under_at waiting.old q }
+    ensures fresh { (q : Tag) → under_at waiting.old q ≡ None → IsFresh (under_at waiting.new q) }
+    ensures there { OnOk result (HasUnder waiting.new tag.now) }
 {
-    if places.push(place).is_err() {
-        unreachable!();
+    if has_row(waiting, tag) {
+        return Ok(());
+    }
+    waiting.insert(tag.copy()?, Under::new(alloc))?;
+    Ok(())
+}
+
+// A row of a part in that of a transaction.
+fn make_part_under(
+    waiting: &mut BTreeMap<Tag, Under>,
+    tag: &Tag,
+    part: &PartKey,
+) -> Result<(), AllocError>
+    requires { HasUnder waiting.old tag.now }
+    ensures made { Changes MakesRows tag.now waiting.old waiting.new }
+    ensures there { OnOk result (HasPartIn (under_at waiting.new tag.now) part.now) }
+{
+    match waiting.get_mut(tag) {
+        Some(under) => make_part(&mut under.parts, part),
+        None => Ok(()),
     }
 }
 
-fn call_at(calls: &[OffsetCall], place: usize) -> Option<&OffsetCall>
-    ensures { option_copied result ≡ slice_get calls.now place }
+// A row of the order for a call behind so many others.
+fn make_place(
+    order: &mut BTreeMap<u64, Option<Tag>>,
+    next: u64,
+    more: usize,
+) -> Result<(), AllocError>
+    ensures same { (n : ℕ) → stands_at order.new n ≡ stands_at order.old n }
+    ensures kept { (n : ℕ) → IsSome (get nat_cmp order.old n) → IsSome (get nat_cmp order.new n) }
+    ensures there { OnOk result (IsSome (get nat_cmp order.new (next + more))) }
+    ensures small { OnOk result (next + more + 1 < 2 ^ 64) }
 {
-    calls.get(place)
+    let more = more as u64;
+    if more >= u64::MAX - next {
+        return Err(AllocError);
+    }
+    let place = next + more;
+    if !has_row(order, &place) {
+        order.insert(place, None)?;
+    }
+    Ok(())
 }
 
-fn same_tags(a: &Tag, b: &Tag) -> bool
-    ensures { result ≡ same_tag a.now b.now }
+// A transaction waits from a place on, unless it does so already.
+fn begin_at(waiting: &mut BTreeMap<Tag, Under>, tag: &Tag, place: u64) -> bool
+    requires { HasUnder waiting.old tag.now }
+    ensures changes { Changes (λ was now. now ≡ begun place was) tag.now waiting.old waiting.new }
+    ensures begins { result ≡ is_none (first_in (under_at waiting.old tag.now)) }
 {
-    a == b
+    match waiting.get_mut(tag) {
+        Some(under) => under.begin(place),
+        None => false,
+    }
 }
 
-// Whether a place is behind that of what is settled.
-fn is_behind(settled: Option<Settled>, place: usize) -> bool
-    ensures { result ≡ is_behind settled place }
+// One put of a transaction more.
+fn put_under(waiting: &mut BTreeMap<Tag, Under>, tag: &Tag, place: u64, part: &PartKey, to: u64)
+    requires { HasPartIn (under_at waiting.old tag.now) part.now }
+    ensures { Changes (Puts place part.now to) tag.now waiting.old waiting.new }
 {
-    match settled {
+    match waiting.get_mut(tag) {
+        Some(under) => under.put(place, part, to),
+        None => {}
+    }
+}
+
+// Nothing of a transaction waits any more. It gives the place from which on something did.
+fn end_at(waiting: &mut BTreeMap<Tag, Under>, tag: &Tag) -> Option<u64>
+    ensures rows { (q : Tag) → under_at waiting.new q ≡ (if same_tag q tag.now
+        then option_map ended (under_at waiting.old q) else under_at waiting.old q) }
+    ensures first { result ≡ first_in (under_at waiting.old tag.now) }
+{
+    waiting.get_mut(tag)?.end()
+}
+
+// Whether nothing of a transaction waits.
+fn is_past(waiting: &BTreeMap<Tag, Under>, tag: &Tag) -> bool
+    ensures { result ≡ is_none (first_in (under_at waiting.now tag.now)) }
+{
+    match waiting.get(tag) {
+        Some(under) => under.first.is_none(),
         None => true,
-        Some(settled) => settled.place < place,
+    }
+}
+
+// The transaction stands at a place whose row is there; else the row goes.
+fn fill_place(order: &mut BTreeMap<u64, Option<Tag>>, place: u64, tag: Tag, stands: bool)
+    requires { IsSome (get nat_cmp order.old place) }
+    ensures rows { (n : ℕ) → stands_at order.new n ≡ (if place == n then (if stands then Some tag else None)
+        else stands_at order.old n) }
+    ensures kept { (n : ℕ) → (place == n) ≡ false → IsSome (get nat_cmp order.old n) →
+        IsSome (get nat_cmp order.new n) }
+{
+    if !stands {
+        empty_place(order, Some(place));
+        return;
+    }
+    if let Some(row) = order.get_mut(&place) {
+        *row = Some(tag);
+    }
+}
+
+// The row of a place goes.
+fn empty_place(order: &mut BTreeMap<u64, Option<Tag>>, place: Option<u64>)
+    ensures rows { (n : ℕ) → stands_at order.new n ≡ (if is_place place n then None else stands_at order.old n) }
+    ensures kept { (n : ℕ) → is_place place n ≡ false → IsSome (get nat_cmp order.old n) →
+        IsSome (get nat_cmp order.new n) }
+{
+    if let Some(place) = place {
+        order.remove(&place);
     }
 }
 
 // Lets all that waits under a transaction take effect.
-fn settle_all(
+fn settle_under(
     parts: &mut BTreeMap<PartKey, Option<Settled>>,
-    calls: &[OffsetCall],
-    waiting: &[usize],
+    waiting: &BTreeMap<Tag, Under>,
     tag: &Tag,
 )
-    requires { HaveRows parts.old calls.now }
-    ensures moved { (part : PartKey) → settled_at parts.new part
-        ≡ fold (after_place part tag.now calls.now) (settled_at parts.old part) waiting.now }
-    ensures kept { (part : PartKey) → HasPart parts.old part → HasPart parts.new part }
+    requires { (q : PartKey) → IsSome (put_in (under_at waiting.now tag.now) q) → HasPart parts.old q }
+    ensures settled { (q : PartKey) → settled_at parts.new q
+        ≡ later (settled_at parts.old q) (put_in (under_at waiting.now tag.now) q) }
+    ensures kept { (q : PartKey) → HasPart parts.old q → HasPart parts.new q }
 {
-    for place in waiting {
-        settle(parts, calls, *place, tag);
+    match waiting.get(tag) {
+        Some(under) => settle_all(parts, under),
+        None => {}
     }
 }
 
-// The same for what waits at a place.
-fn settle(
-    parts: &mut BTreeMap<PartKey, Option<Settled>>,
-    calls: &[OffsetCall],
-    place: usize,
-    tag: &Tag,
-)
-    requires { HaveRows parts.old calls.now }
-    ensures moved { (part : PartKey) → settled_at parts.new part
-        ≡ after_place part tag.now calls.now (settled_at parts.old part) place }
-    ensures kept { (part : PartKey) → HasPart parts.old part → HasPart parts.new part }
+fn settle_all(parts: &mut BTreeMap<PartKey, Option<Settled>>, under: &Under)
+    requires { (q : PartKey) → IsSome (waits_in under.now q) → HasPart parts.old q }
+    ensures settled { (q : PartKey) → settled_at parts.new q
+        ≡ later (settled_at parts.old q) (waits_in under.now q) }
+    ensures kept { (q : PartKey) → HasPart parts.old q → HasPart parts.new q }
 {
-    match call_at(calls, place) {
-        None => {}
-        Some(
-            OffsetCall::Put {
-                tag: other,
-                part,
-                to,
-            },
-        ) => {
-            if same_tags(other, tag) {
-                move_to(parts, part, place, *to);
-            }
-        }
-        Some(OffsetCall::Commit(_)) => {}
-        Some(OffsetCall::Abort(_)) => {}
-        Some(OffsetCall::Set { .. }) => {}
+    for part in under.parts.keys() {
+        settle(parts, part, under.put_of(part));
     }
 }
 
 // A put that takes effect, unless what is settled is behind it.
-fn move_to(parts: &mut BTreeMap<PartKey, Option<Settled>>, part: &PartKey, place: usize, to: u64)
-    requires { HasPart parts.old part.now }
-    ensures moved { (q : PartKey) → settled_at parts.new q
-        ≡ (if same_part q part.now && is_behind (settled_at parts.old q) place then Some (value_at place (Some to))
-        else settled_at parts.old q) }
+fn settle(parts: &mut BTreeMap<PartKey, Option<Settled>>, part: &PartKey, put: Option<Settled>)
+    requires { IsSome put → HasPart parts.old part.now }
+    ensures settled { (q : PartKey) → settled_at parts.new q ≡ (if same_part q part.now
+        then later (settled_at parts.old q) put else settled_at parts.old q) }
     ensures kept { (q : PartKey) → HasPart parts.old q → HasPart parts.new q }
 {
+    if put.is_none() {
+        return;
+    }
     let was = value_at(parts, part, None);
-    if is_behind(was, place) {
-        let settled = Settled {
-            place,
-            to: Some(to),
-        };
-        set_row(parts, part, Some(settled));
+    set_row(parts, part, later(was, put));
+}
+
+// That of two values which has the later place.
+fn later(was: Option<Settled>, put: Option<Settled>) -> Option<Settled>
+    ensures { result ≡ later was put }
+{
+    match (was, put) {
+        (_, None) => was,
+        (None, Some(_)) => put,
+        (Some(settled), Some(new)) => if settled.place < new.place { put } else { was },
     }
 }
 
-// Takes what waits under a transaction out of what waits.
-fn take_out(waiting: &mut Vec<usize>, calls: &[OffsetCall], tag: &Tag)
-    ensures items { waiting.new.items ≡ filter
-        (λ place. not (is_put_of tag.now (slice_get calls.now place))) waiting.old.items }
-    ensures room { vec_capacity waiting.old ≤ vec_capacity waiting.new }
-    ensures len { vec_len waiting.new ≤ vec_len waiting.old }
-{
-    waiting.retain(|place| !is_put_of(calls, *place, tag));
-}
-
-// Whether the call at a place is a put under a transaction.
-fn is_put_of(calls: &[OffsetCall], place: usize, tag: &Tag) -> bool
-    ensures { result ≡ is_put_of tag.now (slice_get calls.now place) }
-{
-    match call_at(calls, place) {
-        None => false,
-        Some(OffsetCall::Put { tag: other, .. }) => same_tags(other, tag),
-        Some(OffsetCall::Commit(_)) => false,
-        Some(OffsetCall::Abort(_)) => false,
-        Some(OffsetCall::Set { .. }) => false,
-    }
-}
-
-/// The first transaction of what waits that has ended.
+/// The first transaction of the order that has ended.
 pub fn first_ended<'a, T: Decided>(
-    calls: &'a [OffsetCall],
-    waiting: &[usize],
+    order: &'a BTreeMap<u64, Option<Tag>>,
     txn: &T,
 ) -> Option<&'a Tag>
-    ensures { option_copied result ≡ find (λ tag. has_ended (T.verdict_of txn.now tag)) (filter_map
-        (λ place. tag_in (slice_get calls.now place)) waiting.now) }
+    ensures first { option_copied result ≡ first_ended (T.verdict_of txn.now) (values order.now) }
+    ensures ordered { IsOrdered nat_cmp order.now }
 {
-    for place in waiting {
-        if let Some(tag) = ended_at(calls, *place, txn) {
+    for row in order.values() {
+        if let Some(tag) = if_ended(row.as_ref(), txn) {
             return Some(tag);
         }
     }
     None
 }
 
-// The transaction of the put at a place, if it has ended.
-fn ended_at<'a, T: Decided>(calls: &'a [OffsetCall], place: usize, txn: &T) -> Option<&'a Tag>
-    ensures { option_copied result ≡ if_ended (T.verdict_of txn.now) (tag_in (slice_get calls.now place)) }
+// A transaction, if it has ended.
+fn if_ended<'a, T: Decided>(row: Option<&'a Tag>, txn: &T) -> Option<&'a Tag>
+    ensures { option_copied result ≡ if_ended (T.verdict_of txn.now) (option_copied row.entry) }
 {
-    match call_at(calls, place) {
-        None => None,
-        Some(OffsetCall::Put { tag, .. }) => if_ended(txn, tag),
-        Some(OffsetCall::Commit(_)) => None,
-        Some(OffsetCall::Abort(_)) => None,
-        Some(OffsetCall::Set { .. }) => None,
-    }
-}
-
-fn if_ended<'a, T: Decided>(txn: &T, tag: &'a Tag) -> Option<&'a Tag>
-    ensures { option_copied result ≡ if_ended (T.verdict_of txn.now) (Some tag.now) }
-{
+    let tag = row?;
     match txn.verdict(tag) {
         Verdict::Committed => Some(tag),
         Verdict::Aborted => Some(tag),

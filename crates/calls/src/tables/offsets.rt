@@ -7,7 +7,8 @@ use crate::states::States;
 use cw_offset::OffsetState;
 use std::alloc::Global;
 
-/// `offsets CALL ..`: a change, or what is committed of a part.
+/// `offsets CALL ..`: a change, what is committed of a part, or which transaction is to be marked, as the
+/// transactions of `coordinator` tell.
 pub fn call(
     states: &mut States,
     fields: &mut Fields<'_>,
@@ -16,6 +17,7 @@ pub fn call(
     let alloc = states.alloc;
     match fields.word()? {
         "begin" => states.offsets = OffsetState::new(alloc),
+        "stand" => states.offsets.stand(&fields.tag(alloc)?)?,
         "put" => put(alloc, &mut states.offsets, fields)?,
         "commit" => states.offsets.commit(&fields.tag(alloc)?)?,
         "abort" => states.offsets.abort(&fields.tag(alloc)?)?,
@@ -24,6 +26,9 @@ pub fn call(
         "committed" => {
             let part = fields.part(alloc)?;
             return answer.some_long(states.offsets.committed(&part));
+        }
+        "first_unmarked" => {
+            return answer.some_tag(states.offsets.first_unmarked(&states.coordinator));
         }
         word => reserve(alloc, &mut states.offsets, word, fields)?,
     }
@@ -37,6 +42,7 @@ fn reserve(
     fields: &mut Fields<'_>,
 ) -> Result<(), Fault> {
     match word {
+        "reserve_stand" => offsets.reserve_stand(&fields.tag(alloc)?)?,
         "reserve_put" => {
             let tag = fields.tag(alloc)?;
             let part = fields.part(alloc)?;

@@ -1,8 +1,8 @@
-use Rattle.std.proofs.Common.{◌≡◌, drop, slice_get}
-use Rattle.cw_offset.specs.Tables.{tag_in}
-use Rattle.cw_offset.proofs.Waits.{first_from}
+use Rattle.std.proofs.Common.{◌≡◌, None, map}
+use Rattle.std.specs.Map.Iter.{deref}
+use Rattle.cw_offset.specs.Tables.{first_ended}
 use Rattle.cw_offset.proofs.tables.first_ended.Given as goal
 
-abbrev pub invariant-loop-place : goal.invariant-loop-place
-invariant-loop-place g l =
-    first_from (g.T.Decided.verdict_of l.txn) (λ place. tag_in (slice_get l.calls place)) (drop l.place-index l.waiting) ≡ first_from (g.T.Decided.verdict_of l.txn) (λ place. tag_in (slice_get l.calls place)) l.waiting
+-- none so far has ended
+abbrev pub invariant-loop-row : goal.invariant-loop-row
+invariant-loop-row g l = first_ended (g.T.Decided.verdict_of l.txn) (map deref l.yielded) ≡ None

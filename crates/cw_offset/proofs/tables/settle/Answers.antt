@@ -1,9 +1,8 @@
-use Rattle.std.proofs.Common.{Some, ◌∙◌, sym, ap}
-use Rattle.std.specs.Option.{option_copied}
-use Rattle.cw_offset.specs.declared.call.OffsetCall.TheVariants.{Put}
-use Rattle.cw_offset.proofs.Waits.{found_there}
+use Rattle.std.proofs.Common.{◌∙◌, ap}
+use Rattle.cw_offset.specs.Rows.{later}
+use Rattle.cw_offset.proofs.Changed.{moved_by}
 use Rattle.cw_offset.proofs.tables.settle.Goals as goal
 
-pub move_to-requires : goal.move_to-requires
-move_to-requires c = c.requires (Put c.in-Some-Put.other c.in-Some-Put.part c.in-Some-Put.to)
-    (found_there c.args.calls.now c.args.place (Put c.in-Some-Put.other c.in-Some-Put.part c.in-Some-Put.to) (sym c.call_at.ensures ∙ ap option_copied c.in-Some-Put.is ∙ ap Some c.in-Some-Put.field-0-is))
+pub returns-clause-settled : goal.returns-clause-settled
+returns-clause-settled c =
+    moved_by c.args.parts.now c.set_row.new.table c.args.part.now c.args.put c.later.result c.set_row.ensures (c.later.ensures ∙ ap (λ s. later s c.args.put) c.value_at-was.ensures)

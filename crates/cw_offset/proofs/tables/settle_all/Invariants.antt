@@ -1,10 +1,11 @@
-use Rattle.std.proofs.Common.{◌≡◌, take}
-use Rattle.std.specs.List.{fold}
+use Rattle.std.proofs.Common.{◌≡◌}
 use Rattle.cw_types.specs.declared.ids.PartKey.{PartKey}
-use Rattle.cw_offset.specs.Tables.{settled_at, after_place, HasPart}
+use Rattle.cw_offset.specs.Rows.{settled_at, HasPart}
+use Rattle.cw_offset.proofs.Changed.{seen}
 use Rattle.cw_offset.proofs.tables.settle_all.Given as goal
 
-abbrev pub invariant-loop-place : goal.invariant-loop-place
-invariant-loop-place l =
-    ((part : PartKey) → settled_at l.parts part ≡ fold (after_place part l.tag l.calls) (settled_at l.initial.parts part) (take l.place-index l.waiting))
-    × ((part : PartKey) → HasPart l.initial.parts part → HasPart l.parts part)
+-- the puts of the parts so far have taken effect
+abbrev pub invariant-loop-part : goal.invariant-loop-part
+invariant-loop-part l =
+    ((q : PartKey) → settled_at l.parts q ≡ seen l.under q (settled_at l.initial.parts q) l.yielded)
+    × ((q : PartKey) → HasPart l.initial.parts q → HasPart l.parts q)

@@ -1,6 +1,6 @@
 use Rattle.std.proofs.Common.{◌∙◌, sym, ap}
-use Rattle.cw_offset.specs.Tables.{value_in}
-use Rattle.cw_offset.proofs.Lasts.{committed-settled}
+use Rattle.cw_offset.specs.Rows.{value_in}
+use Rattle.cw_offset.proofs.Pushed.{committed-settled}
 use Rattle.cw_offset.proofs.state.OffsetState.committed.Goals as goal
 
 pub returns-in-None : goal.returns-in-None

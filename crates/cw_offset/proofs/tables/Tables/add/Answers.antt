@@ -1,18 +1,26 @@
-use Rattle.std.proofs.Common.{◌∙◌, ap, List, ℕ}
-use Rattle.std.specs.List.{fold}
-use Rattle.cw_offset.specs.Tables.{settled_at, after_place}
-use Rattle.cw_offset.proofs.Kept.{keeps_put, keeps_commit, keeps_abort, keeps_set}
+use Rattle.cw_offset.proofs.Rooms.{uses_room, stands_before, backs_parts}
 use Rattle.cw_offset.proofs.tables.Tables.add.Goals as goal
 
-pub returns-in-Put-clause-kept : goal.returns-in-Put-clause-kept
-returns-in-Put-clause-kept c = rw c.in-Put.is (keeps_put c.args.self.now c.args.calls.now c.requires.kept c.push_made.new.places _ _ _ c.push_made.ensures.pushed)
+pub commit-requires-clause-before : goal.commit-requires-clause-before
+commit-requires-clause-before c = stands_before c.args.self.now c.args.calls.now.items c.requires.kept c.in-Commit.tag
 
-pub returns-in-Commit-clause-kept : goal.returns-in-Commit-clause-kept
-returns-in-Commit-clause-kept c = rw c.in-Commit.is (keeps_commit c.args.self.now c.args.calls.now c.requires.kept c.settle_all.new.parts c.take_out.new.waiting c.in-Commit.tag
-    (λ q. c.settle_all.ensures.moved q ∙ ap (λ (places : List ℕ). fold (after_place q c.in-Commit.tag c.args.calls.now) (settled_at c.args.self.now.parts q) places) c.as_slice.ensures.value) c.take_out.ensures.items)
+pub commit-requires-clause-backed : goal.commit-requires-clause-backed
+commit-requires-clause-backed c = backs_parts c.args.self.now c.args.calls.now.items c.requires.kept c.in-Commit.tag
 
-pub returns-in-Abort-clause-kept : goal.returns-in-Abort-clause-kept
-returns-in-Abort-clause-kept c = rw c.in-Abort.is (keeps_abort c.args.self.now c.args.calls.now c.requires.kept c.take_out-in-Abort.new.waiting c.in-Abort.tag c.take_out-in-Abort.ensures.items)
+pub abort-requires-clause-before : goal.abort-requires-clause-before
+abort-requires-clause-before c = stands_before c.args.self.now c.args.calls.now.items c.requires.kept c.in-Abort.tag
 
-pub returns-in-Set-clause-kept : goal.returns-in-Set-clause-kept
-returns-in-Set-clause-kept c = rw c.in-Set.is (keeps_set c.args.self.now c.args.calls.now c.requires.kept c.set_row.new.table c.in-Set.part c.in-Set.to c.set_row.ensures)
+pub returns-in-Stand-clause-room : goal.returns-in-Stand-clause-room
+returns-in-Stand-clause-room c = uses_room c.args.self.now c.stand.new.self c.stand.ensures.room c.args.call
+
+pub returns-in-Put-clause-room : goal.returns-in-Put-clause-room
+returns-in-Put-clause-room c = uses_room c.args.self.now c.put.new.self c.put.ensures.room c.args.call
+
+pub returns-in-Commit-clause-room : goal.returns-in-Commit-clause-room
+returns-in-Commit-clause-room c = uses_room c.args.self.now c.commit.new.self c.commit.ensures.room c.args.call
+
+pub returns-in-Abort-clause-room : goal.returns-in-Abort-clause-room
+returns-in-Abort-clause-room c = uses_room c.args.self.now c.abort.new.self c.abort.ensures.room c.args.call
+
+pub returns-in-Set-clause-room : goal.returns-in-Set-clause-room
+returns-in-Set-clause-room c = uses_room c.args.self.now c.set.new.self c.set.ensures.room c.args.call
