@@ -15,6 +15,15 @@ pub enum Class {
     FileStreamSink,
 }
 
+impl Class {
+    /// Whether its connectors are sources; those of the others are sinks.
+    pub fn is_source(self) -> bool
+        ensures { result ≡ (row_of self).is_source }
+    {
+        row_of(self).is_source
+    }
+}
+
 /// A property that a class requires.
 #[derive(Clone, Copy, Debug, PartialEq, Eq, Drop)]
 pub enum Field {

@@ -115,13 +115,15 @@ fn configs_of_class(alloc: Global, props: &Props, class: Class) -> Result<Vec<Pr
     configs_of_shares(alloc, props, class, &found)
 }
 
-// The class of properties.
-fn class_in(props: &Props) -> Option<Class>
-    ensures { result ≡ class_in props.now }
-{
-    match props.get("connector.class") {
-        Some(text) => class_of(text.as_str()),
-        None => None,
+impl Class {
+    /// The class that a connector's config names, by any of its names, if it names one.
+    pub fn named_by(props: &Props) -> Option<Class>
+        ensures { result ≡ class_in props.now }
+    {
+        match props.get("connector.class") {
+            Some(text) => class_of(text.as_str()),
+            None => None,
+        }
     }
 }
 
@@ -137,7 +139,7 @@ pub fn task_configs(alloc: Global, props: &Props) -> Result<Vec<Props>, AllocErr
     ensures apart { IfOk result (λ configs. AreApart configs.items) }
     ensures whole { IfOk result (λ configs. HaveAllParts props.now configs.items) }
 {
-    match class_in(props) {
+    match Class::named_by(props) {
         Some(class) => configs_of_class(alloc, props, class),
         None => Ok(Vec::new(alloc)),
     }

@@ -3,11 +3,10 @@
 -- is always kept, as in Kafka Connect.
 use Rattle.std.specs.Prelude.{ℕ, ◌+◌, ◌==◌, Bool, true, false, List, [], ◌∷◌, Option, Some, None, Result, Ok, Err, bytes_eq, option_map, option_and_then, codes, if◌then◌else◌}
 use Rattle.std.specs.Option.{option_map_or}
-use Rattle.std.specs.Ordering.{nat_cmp, match_ordering}
-use Rattle.std.specs.Cmp.Lexicographic.{slice_cmp}
 use Rattle.serde_json.specs.Data.{Data, Members, no_members, member}
 use Rattle.serde_json.specs.Find.{get, as_str, as_object}
 use Rattle.cw_json.specs.Reading.{reading}
+use Rattle.cw_json.specs.Inserting.{with_value}
 use Rattle.cw_json.specs.Pairs.{value_in}
 use Rattle.cw_json.specs.Props.{props_of_data}
 use Rattle.cw_json.specs.declared.fault.JsonFault.{JsonFault}
@@ -31,19 +30,13 @@ abbrev pub unless_fault : {A : Type 0} → Result A JsonFault → Option A
 unless_fault (Ok x) = Some x
 unless_fault (Err fault) = None
 
--- properties with one more, at its place among the keys, or in place of the one of its key
-abbrev pub with_property : List ℕ → List ℕ → Properties → Properties
-with_property key value [] = (key, value) ∷ []
-with_property key value (p ∷ ps) = match_ordering (slice_cmp nat_cmp key p.0)
-    ((key, value) ∷ p ∷ ps) ((key, value) ∷ ps) (p ∷ with_property key value ps)
-
 -- whether the properties name this connector, or none
 abbrev pub may_be_named : List ℕ → Properties → Bool
 may_be_named name props = option_map_or (λ own. bytes_eq own name) (value_in props (codes "name")) true
 
 -- the properties of a connector, as they are kept
 abbrev pub named_config : List ℕ → Data → Option Properties
-named_config name value = option_map (with_property (codes "name") name)
+named_config name value = option_map (with_value (codes "name") name)
     (option_and_then (where_it (may_be_named name)) (unless_fault (props_of_data value)))
 
 -- the config that a body gives a connector

@@ -10,7 +10,7 @@ use Rattle.cw_route.specs.declared.call.RouteFault.{RouteFault}
 use Rattle.cw_route.specs.declared.call.RouteFault.TheVariants as route
 use Rattle.cw_plugin.specs.declared.fault.PluginFault.{PluginFault}
 use Rattle.cw_plugin.specs.declared.fault.PluginFault.TheVariants as plugin
-use Rattle.cw_rest.specs.declared.reply.Reply.{Reply}
+use Rattle.cw_route.specs.declared.reply.Reply.{Reply}
 
 -- a reply with a JSON value
 abbrev pub replied : ℕ → Data → Reply
@@ -21,10 +21,12 @@ abbrev pub empty_reply : ℕ → Reply
 empty_reply code = record { code = code; body = [] }
 
 -- an error
+abbrev pub error_data : ℕ → List ℕ → Data
+error_data code message = object (member (codes "error_code") (number (unsigned code))
+    (member (codes "message") (string message) no_members))
+
 abbrev pub refusal : ℕ → List ℕ → Reply
-refusal code message = replied code
-    (object (member (codes "error_code") (number (unsigned code))
-    (member (codes "message") (string message) no_members)))
+refusal code message = replied code (error_data code message)
 
 -- the name of a log
 abbrev pub log_text : LogName → List ℕ

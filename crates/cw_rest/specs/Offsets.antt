@@ -107,6 +107,10 @@ abbrev pub part_in : List ℕ → Data → Option PartKey
 part_in name partition = first_some (option_map (File name) (feed_in partition))
     (first_some (option_map (Seq name) (sequence_in partition)) (option_map (Sink name) (topic_in partition)))
 
+-- the part that an alteration names
+abbrev pub part_of : List ℕ → Alteration → Option PartKey
+part_of name alteration = part_in name alteration.partition
+
 -- whether a part stands twice among these
 abbrev pub has_repeat : List PartKey → Bool
 has_repeat [] = false
@@ -115,14 +119,17 @@ has_repeat (part ∷ parts) = if list_any (same_part part) parts then true else 
 -- whether there are 1 to 1,000 offsets, and no part is named twice
 abbrev pub is_list_of_offsets : List ℕ → List Alteration → Bool
 is_list_of_offsets name list = nat_lt 0 (length list) && nat_le (length list) 1000 &&
-    not (has_repeat (filter_map (λ alteration. part_in name alteration.partition) list))
+    not (has_repeat (filter_map (part_of name) list))
+
+-- the offsets that an object alters: it has their list and no other member
+abbrev pub alterations_by : List ℕ → Data → Option (List Alteration)
+alterations_by name value = option_and_then (where_it (is_list_of_offsets name))
+    (option_and_then (λ items. each_of alteration_of (elements_of items))
+    (option_and_then as_array (option_and_then (get (codes "offsets")) (where_it (has_members 1) value))))
 
 -- the offsets that a body alters
 abbrev pub alterations_in : List ℕ → List ℕ → Option (List Alteration)
-alterations_in name body = option_and_then (where_it (is_list_of_offsets name))
-    (option_and_then (λ items. each_of alteration_of (elements_of items))
-    (option_and_then as_array (option_and_then (get (codes "offsets"))
-    (option_and_then (where_it (has_members 1)) (reading body)))))
+alterations_in name body = option_and_then (alterations_by name) (reading body)
 
 -- a position below 2^48, as the offset of a part
 abbrev pub position_in : PartKey → Data → Option (Option ℕ)
@@ -142,7 +149,7 @@ offset_in part (object members) = position_in part (object members)
 abbrev pub set_by : (is_source : Bool) → List ℕ → Alteration → Option SetOffset
 set_by is_source name alteration = option_and_then
     (λ part. option_map (λ to. record { part = part; to = to }) (offset_in part alteration.offset))
-    (option_and_then (where_it (is_of_type is_source)) (part_in name alteration.partition))
+    (option_and_then (where_it (is_of_type is_source)) (part_of name alteration))
 
 -- what a list of them sets, in its order
 abbrev pub sets_by : (is_source : Bool) → List ℕ → List Alteration → Option (List SetOffset)

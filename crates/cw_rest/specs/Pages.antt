@@ -3,11 +3,11 @@
 use Rattle.std.specs.Prelude.{ℕ, ◌++◌, Bool, true, false, List, [], ◌∷◌, map, Option, Some, None, unwrap_or, option_map, codes, decimal, if◌then◌else◌}
 use Rattle.std.specs.Option.{option_map_or}
 use Rattle.std.specs.List.{filter_map, range_with_len}
-use Rattle.serde_json.specs.Data.{Data, Items, no_items, item, Members, no_members, member, array, object, number, unsigned, string}
+use Rattle.serde_json.specs.Data.{Data, Members, no_members, member, array, object, number, unsigned, string}
+use Rattle.serde_json.specs.View.{items_of}
 use Rattle.cw_types.specs.declared.ids.Item.TheVariants.{Connector, Task}
 use Rattle.cw_types.specs.declared.ids.TaskId.{TaskId}
 use Rattle.cw_types.specs.declared.ids.PartKey.{PartKey}
-use Rattle.cw_json.specs.Pairs.{value_in}
 use Rattle.cw_json.specs.Writing.{members_of_props}
 use Rattle.cw_keys.specs.declared.state.State.{State}
 use Rattle.cw_keys.specs.declared.state.State.TheVariants.{Unassigned, Running, Paused, Failed, Restarting, Stopped}
@@ -15,18 +15,16 @@ use Rattle.cw_keys.specs.declared.status.StatusValue.{StatusValue}
 use Rattle.cw_keys.specs.Statuses.{state_name, trace_data}
 use Rattle.cw_keys.specs.Offsets.{offset_name}
 use Rattle.cw_keys.specs.Counts.{count_data}
+use Rattle.cw_config.specs.declared.records.ConfigRecord.{ConfigRecord}
 use Rattle.cw_config.specs.View.{Properties, config_of, task_count_of, task_of}
-use Rattle.cw_plugin.specs.Classes.{row_of, class_of}
+use Rattle.cw_plugin.specs.Classes.{row_of}
+use Rattle.cw_plugin.specs.Tasks.{class_in}
 use Rattle.cw_status.specs.Statuses.{latest}
 use Rattle.cw_txn.specs.History.{end_of}
 use Rattle.cw_rest.specs.Seen.{Seen, connectors_in}
 use Rattle.cw_rest.specs.Offsets.{partition_of, parts_with_offsets}
 
 -- a JSON list, and an object of members
-abbrev pub items_of : List Data → Items
-items_of [] = no_items
-items_of (first ∷ others) = item first (items_of others)
-
 abbrev pub list_of : List Data → Data
 list_of values = array (items_of values)
 
@@ -52,34 +50,38 @@ config_seen name seen = unwrap_or (config_of name seen.configs) []
 
 -- whether properties are a source's
 abbrev pub is_source : Properties → Bool
-is_source props = option_map_or (λ class. (row_of class).is_source)
-    (option_map_or class_of (value_in props (codes "connector.class")) None) false
+is_source props = option_map_or (λ class. (row_of class).is_source) (class_in props) false
 
 -- a connector's type
 abbrev pub type_text : Properties → List ℕ
 type_text props = if is_source props then codes "source" else codes "sink"
 
--- a connector's tasks
+-- a connector's tasks, of which there are so many
+abbrev pub tasks_of : List ℕ → ℕ → List TaskId
+tasks_of name count = map (λ index. record { connector = name; index = index }) (range_with_len 0 count)
+
 abbrev pub tasks_seen : List ℕ → Seen → List TaskId
-tasks_seen name seen =
-    map (λ index. record { connector = name; index = index }) (range_with_len 0 (task_count_of name seen.configs))
+tasks_seen name seen = tasks_of name (task_count_of name seen.configs)
 
 -- a task's id
 abbrev pub id_data : TaskId → Data
 id_data id = object_of ((codes "connector", string id.connector) ∷ (codes "task", whole id.index) ∷ [])
 
 -- a connector with its config and tasks
-abbrev pub info : List ℕ → Seen → Data
-info name seen = object_of (
-    (codes "config", properties (config_seen name seen)) ∷
+abbrev pub info_with : List ℕ → Properties → List TaskId → Data
+info_with name config tasks = object_of (
+    (codes "config", properties config) ∷
     (codes "name", string name) ∷
-    (codes "tasks", list_of (map id_data (tasks_seen name seen))) ∷
-    (codes "type", string (type_text (config_seen name seen))) ∷ [])
+    (codes "tasks", list_of (map id_data tasks)) ∷
+    (codes "type", string (type_text config)) ∷ [])
+
+abbrev pub info : List ℕ → Seen → Data
+info name seen = info_with name (config_seen name seen) (tasks_seen name seen)
 
 -- a task with its config
-abbrev pub task_info : Seen → TaskId → Data
-task_info seen id = object_of (
-    (codes "config", properties (unwrap_or (task_of id seen.configs) [])) ∷ (codes "id", id_data id) ∷ [])
+abbrev pub task_data : List ConfigRecord → TaskId → Data
+task_data configs id = object_of (
+    (codes "config", properties (unwrap_or (task_of id configs) [])) ∷ (codes "id", id_data id) ∷ [])
 
 -- the names of all connectors
 abbrev pub names : Seen → Data
@@ -87,7 +89,7 @@ names seen = list_of (map string (connectors_in seen))
 
 -- the tasks of a connector
 abbrev pub task_infos : List ℕ → Seen → Data
-task_infos name seen = list_of (map (task_info seen) (tasks_seen name seen))
+task_infos name seen = list_of (map (task_data seen.configs) (tasks_seen name seen))
 
 -- ---- states
 
@@ -110,13 +112,16 @@ status_members status = ((codes "state", string (state_name status.state)) ∷ t
     (codes "worker_id", string (codes "worker-" ++ decimal status.worker)) ∷ []
 
 -- the status of a task
-abbrev pub task_status : TaskId → StatusValue → Data
-task_status id status = object_of ((codes "id", whole id.index) ∷ status_members status)
+abbrev pub task_status : (index : ℕ) → StatusValue → Data
+task_status index status = object_of ((codes "id", whole index) ∷ status_members status)
+
+-- the status of a task, where one was reported
+abbrev pub status_of_task : Seen → TaskId → Option Data
+status_of_task seen id = option_map (task_status id.index) (latest (Task id) seen.statuses)
 
 -- those of a connector's tasks that have one
 abbrev pub task_statuses : List ℕ → Seen → Data
-task_statuses name seen = list_of (filter_map
-    (λ id. option_map (task_status id) (latest (Task id) seen.statuses)) (tasks_seen name seen))
+task_statuses name seen = list_of (filter_map (status_of_task seen) (tasks_seen name seen))
 
 -- the status of a connector and of its tasks
 abbrev pub connector_status : List ℕ → StatusValue → Seen → Data

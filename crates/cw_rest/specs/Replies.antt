@@ -19,7 +19,7 @@ use Rattle.cw_status.specs.Statuses.{latest}
 use Rattle.cw_txn.specs.declared.entry.Entry.{Entry}
 use Rattle.cw_txn.specs.declared.entry.SetOffset.{SetOffset}
 use Rattle.cw_txn.specs.Legal.{epoch_of}
-use Rattle.cw_rest.specs.declared.reply.Reply.{Reply}
+use Rattle.cw_route.specs.declared.reply.Reply.{Reply}
 use Rattle.cw_rest.specs.Seen.{Seen, KeyedValues, behind_write, is_connector, is_task}
 use Rattle.cw_rest.specs.Operations.{config_values, target_values, stop_values, delete_values, offset_entries, removals}
 use Rattle.cw_rest.specs.Messages.{replied, empty_reply, not_called, bad_body, bad_name, rebalancing, no_connector, no_status, no_task, already_there, not_stopped, bad_offset, bad_config}
@@ -61,7 +61,7 @@ status_reply name seen (Some status) = replied 200 (connector_status name status
 -- the state of a task, unless none was reported of it
 abbrev pub task_status_reply : TaskId → Option StatusValue → Reply
 task_status_reply id None = no_task id
-task_status_reply id (Some status) = replied 200 (task_status id status)
+task_status_reply id (Some status) = replied 200 (task_status id.index status)
 
 -- ---- calls that write configs
 
@@ -69,13 +69,17 @@ task_status_reply id (Some status) = replied 200 (task_status id status)
 abbrev pub written : ℕ → List ℕ → KeyedValues → Seen → Reply
 written code name values seen = replied code (info name (behind_write values seen))
 
+-- a new connector, whose name is one
+abbrev pub create_named : (ready : Bool) → Seen → List ℕ → Properties → Reply
+create_named ready seen name config =
+    unless ready rebalancing (
+    unless (not (is_connector name seen)) (already_there name) (
+    if_taken config seen (written 201 name (config_values name config) seen)))
+
 -- a new connector
 abbrev pub create_reply : (ready : Bool) → Seen → Asked → Reply
 create_reply ready seen asked =
-    unless (is_name asked.name) bad_name (
-    unless ready rebalancing (
-    unless (not (is_connector asked.name seen)) (already_there asked.name) (
-    if_taken asked.config seen (written 201 asked.name (config_values asked.name asked.config) seen))))
+    unless (is_name asked.name) bad_name (create_named ready seen asked.name asked.config)
 
 -- a connector's config, which makes it where it isn't there
 abbrev pub put_reply : (ready : Bool) → Seen → List ℕ → Properties → Reply

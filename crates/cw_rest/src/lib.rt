@@ -7,11 +7,9 @@
 #![tactic(auto)]
 
 mod cases;
-mod reply;
 
 pub use cases::{
     absent_connector_is_not_found, connector_at_work_is_told, new_connector_is_told,
     refused_connector_is_told_why, stop_writes_two_records, stopped_connector_is_altered,
     stopped_connector_is_reset,
 };
-pub use reply::Reply;

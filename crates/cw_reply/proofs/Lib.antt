@@ -1,0 +1,5 @@
+mod Connectors
+mod Listing
+mod Sorted
+mod Tasks
+mod Whole

@@ -1,0 +1,5 @@
+use Rattle.cw_reply.proofs.Whole.{info_told}
+use Rattle.cw_reply.proofs.replies.info.Goals as goal
+
+pub replied-requires : goal.replied-requires
+replied-requires c = info_told _ _ _ _ c.in_ok-info.ensures

@@ -1,0 +1,4 @@
+pub mod Alterations
+pub mod Bodies
+pub mod Placed
+pub mod View
