@@ -1,5 +1,6 @@
 mod EmptyCluster
 mod LeadersRefusals
-mod Lines
-mod Shorter
-mod Stored
+pub mod Lines
+pub mod Shorter
+pub mod Stored
+mod TwiceCommitted

@@ -1,22 +1,26 @@
 -- A log of which some records go has no more bytes than before.
-use Rattle.std.proofs.Common.{◌≡◌, ℕ, ◌≤◌, ◌-◌, ◌^◌, ◌==◌, Bool, true, false, not, nat_lt, take, List, [], ◌∷◌, ◌++◌, length, map, Option, Some, None, if◌then◌else◌, refl, arith, length-append}
-use Rattle.std.specs.List.{filter, filter_map, flat_map}
+use Rattle.std.proofs.Common.{◌≡◌, ℕ, ◌≤◌, ◌-◌, ◌^◌, ◌==◌, Bool, true, false, not, nat_lt, List, [], ◌∷◌, ◌++◌, length, map, Option, Some, None, if◌then◌else◌, refl, arith, length-append}
+use Rattle.std.specs.List.{filter, flat_map}
 use Rattle.cw_types.specs.declared.logs.DiskName.{DiskName}
 use Rattle.cw_types.specs.declared.logs.LogName.{LogName}
 use Rattle.cw_types.specs.declared.logs.LogName.TheVariants.{Config, Offsets, Status}
 use Rattle.cw_bytes.specs.declared.applied.Applied.{Applied}
 use Rattle.cw_bytes.specs.Spelling.{word, tag_bytes, record_bytes, records_bytes}
+use Rattle.cw_bytes.specs.Frames.{joined, is_last}
+use Rattle.cw_config.specs.Compaction.{clean_part, config_stays, compact_configs}
 use Rattle.cw_txn.specs.declared.entry.Entry.{Entry}
 use Rattle.cw_offset.specs.declared.body.OffsetEntry.{OffsetEntry}
 use Rattle.cw_offset.specs.declared.body.OffsetEntry.TheVariants.{Records, Mark}
 use Rattle.cw_offset.specs.Body.{entry_bytes as offset_body}
+use Rattle.cw_offset.specs.Log.{offset_records}
+use Rattle.cw_offset.specs.Compaction.{offset_goes, records_staying, offset_stays, compact_offsets}
+use Rattle.cw_status.specs.Compaction.{compact_statuses}
 use Rattle.cw_log.specs.Log.{length_of}
 use Rattle.cw_model.specs.State.{Cluster}
 use Rattle.cw_model.specs.declared.fault.WorldFault.TheVariants.{Full}
-use Rattle.cw_model.specs.Lookups.{joined, offset_records}
 use Rattle.cw_model.specs.Answers.{Answer, refused, answered, unless_closed}
 use Rattle.cw_model.specs.Bodies.{config_length, offsets_length, status_length}
-use Rattle.cw_model.specs.EventsCompaction.{keyed, clean_point, config_stays, compact_configs, is_last, compact_statuses, offset_goes, records_staying, offset_stays, compact_offsets, on_other_side, unless_worn, compact}
+use Rattle.cw_model.specs.EventsCompaction.{on_other_side, unless_worn, compact}
 
 length-word : (n : ℕ) → length (word n) ≡ 4
 unfolding word
@@ -64,6 +68,21 @@ records_staying-le entries log (Records tag records) = omega (
 )
 records_staying-le entries log (Mark mark) = omega arith
 
+-- so of each log a compaction leaves no more
+pub configs-shorter : (frames : List (List Applied)) → length_of (map records_bytes (compact_configs frames)) ≤ length_of (map records_bytes frames)
+configs-shorter frames =
+    let stays : Applied → Bool = config_stays (clean_part (joined frames)) in
+    length_of-le records_bytes (filter stays) (records_bytes-filter-le stays) (λ frame. not (length frame == 0)) frames
+
+pub offsets-shorter : (entries : List Entry) (log : List OffsetEntry) → length_of (map offset_body (compact_offsets entries log)) ≤ length_of (map offset_body log)
+offsets-shorter entries log =
+    length_of-le offset_body (records_staying entries log) (records_staying-le entries log) (offset_stays (map (records_staying entries log) log)) log
+
+pub statuses-shorter : (frames : List (List Applied)) → length_of (map records_bytes (compact_statuses frames)) ≤ length_of (map records_bytes frames)
+statuses-shorter frames =
+    let stays : Applied → Bool = is_last (joined frames) in
+    length_of-le records_bytes (filter stays) (records_bytes-filter-le stays) (λ frame. not (length frame == 0)) frames
+
 -- an event with which a log has no more bytes, unless it is refused
 worn-le : {A : Type 0} (size : Cluster → ℕ) (s : Cluster) (b : Bool) (done other : Answer A) → size done.1 ≤ size s → size other.1 ≤ size s →
     size (if b then done else other).1 ≤ size s
@@ -83,28 +102,19 @@ compact-le size log n side answer s t below = open-le size s s.closed (unless_wo
 
 pub config_length-compact : (s : Cluster) → config_length (compact Config s).1 ≤ config_length s
 config_length-compact s =
-    let records : List Applied = joined s.config.frames in
-    let stays : Applied → Bool = config_stays (take (clean_point (filter_map keyed records)) records) in
     let frames : List (List Applied) = compact_configs s.config.frames in
-    compact-le config_length Config (config_length s) s.config.side (length records, length (joined frames)) s
-    (record s { config = on_other_side frames s.config })
-    (length_of-le records_bytes (filter stays) (records_bytes-filter-le stays) (λ frame. not (length frame == 0)) s.config.frames)
+    compact-le config_length Config (config_length s) s.config.side (length (joined s.config.frames), length (joined frames)) s
+    (record s { config = on_other_side frames s.config }) (configs-shorter s.config.frames)
 
 pub offsets_length-compact : (s : Cluster) → offsets_length (compact Offsets s).1 ≤ offsets_length s
 offsets_length-compact s =
-    let kept : OffsetEntry → OffsetEntry = records_staying s.entries s.offsets.frames in
-    let log : List OffsetEntry = map kept s.offsets.frames in
     let frames : List OffsetEntry = compact_offsets s.entries s.offsets.frames in
-    let stays : OffsetEntry → Bool = offset_stays (filter (λ entry. not (length (offset_records entry) == 0)) log) in
     compact-le offsets_length Offsets (offsets_length s) s.offsets.side
     (length (flat_map offset_records s.offsets.frames), length (flat_map offset_records frames)) s
-    (record s { offsets = on_other_side frames s.offsets })
-    (length_of-le offset_body kept (records_staying-le s.entries s.offsets.frames) stays s.offsets.frames)
+    (record s { offsets = on_other_side frames s.offsets }) (offsets-shorter s.entries s.offsets.frames)
 
 pub status_length-compact : (s : Cluster) → status_length (compact Status s).1 ≤ status_length s
 status_length-compact s =
-    let stays : Applied → Bool = is_last (joined s.status.frames) in
     let frames : List (List Applied) = compact_statuses s.status.frames in
     compact-le status_length Status (status_length s) s.status.side (length (joined s.status.frames), length (joined frames)) s
-    (record s { status = on_other_side frames s.status })
-    (length_of-le records_bytes (filter stays) (records_bytes-filter-le stays) (λ frame. not (length frame == 0)) s.status.frames)
+    (record s { status = on_other_side frames s.status }) (statuses-shorter s.status.frames)

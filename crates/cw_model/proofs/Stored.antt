@@ -2,12 +2,13 @@
 use Rattle.std.proofs.Common.{◌≡◌, ℕ, List, [], ◌∷◌, Some, refl, ap, ◌∙◌, sym}
 use Rattle.cw_bytes.specs.Unread.{Unread}
 use Rattle.cw_bytes.specs.Reading.{Read, records_at}
+use Rattle.cw_bytes.specs.Frames.{joined}
+use Rattle.cw_config.specs.Compaction.{configs_in}
 use Rattle.cw_txn.specs.BodyReading.{entries_at}
 use Rattle.cw_offset.specs.BodyReading.{entry_at as stored_at}
 use Rattle.cw_data.specs.BodyReading.{entry_at as data_at}
 use Rattle.cw_model.specs.State.{Cluster}
-use Rattle.cw_model.specs.Lookups.{joined}
-use Rattle.cw_model.specs.Bodies.{configs_in, statuses_in}
+use Rattle.cw_model.specs.Bodies.{statuses_in}
 use Rattle.cw_model.specs.StandsFor.{Stored, Frames, AreReadAs, AreRead, StandFor, on_side_of}
 
 -- a body is read in one way

@@ -1,23 +1,20 @@
 -- How records are written and read, how many bytes each log has, and when it is full: a log has at most 2^28 bytes,
 -- and each frame is its body and five bytes more. This project's own format.
-use Rattle.std.specs.Prelude.{ℕ, ◌+◌, ◌^◌, Bool, List, Option, Some, None, Result, Ok, Err, map, length, nat_le, option_map, option_and_then}
+use Rattle.std.specs.Prelude.{ℕ, ◌+◌, ◌^◌, Bool, List, Option, Some, map, length, nat_le, option_map}
 use Rattle.std.specs.List.{filter_map}
-use Rattle.cw_types.specs.declared.ids.Item.{Item}
 use Rattle.cw_bytes.specs.declared.applied.Applied.{Applied}
 use Rattle.cw_bytes.specs.Spelling.{records_bytes}
+use Rattle.cw_bytes.specs.Frames.{joined}
 use Rattle.cw_keys.specs.ConfigKeys.{config_key_text}
 use Rattle.cw_keys.specs.Configs.{config_text}
-use Rattle.cw_keys.specs.Statuses.{status_key, status_text, status_of}
-use Rattle.cw_keys.specs.declared.fault.KeyFault.{KeyFault}
-use Rattle.cw_keys.specs.declared.status.StatusValue.{StatusValue}
+use Rattle.cw_keys.specs.Statuses.{status_key, status_text}
 use Rattle.cw_config.specs.declared.records.ConfigRecord.{ConfigRecord}
-use Rattle.cw_config.specs.Acceptance.{record_of}
+use Rattle.cw_status.specs.Compaction.{record_in}
 use Rattle.cw_txn.specs.Body.{entries_bytes}
 use Rattle.cw_offset.specs.Body.{entry_bytes as offset_body}
 use Rattle.cw_data.specs.Body.{entry_bytes as data_body}
 use Rattle.cw_log.specs.Log.{length_of}
 use Rattle.cw_model.specs.State.{Cluster, StampedStatus}
-use Rattle.cw_model.specs.Lookups.{joined}
 
 -- a record of the config log as it is written
 abbrev pub config_applied : ConfigRecord → Applied
@@ -45,26 +42,9 @@ status_applied r = record {
 abbrev pub status_body : List StampedStatus → List ℕ
 status_body records = records_bytes (map status_applied records)
 
--- the record of the config log that fields are, where key and value are in its grammar; they may be spelled otherwise
--- than they are written
-abbrev pub config_in : Applied → Option ConfigRecord
-config_in a = record_of a.offset a.stamp a.key a.value
-
--- the records that frames of the config log are
-abbrev pub configs_in : List (List Applied) → List ConfigRecord
-configs_in frames = filter_map config_in (joined frames)
-
--- the status of a key and a value that were read
-abbrev pub status_with : Applied → Result (Item × StatusValue) KeyFault → Option StampedStatus
-status_with a (Ok read) = Some (record {
-  stamp = a.stamp;
-  status = record { offset = a.offset; item = read.0; value = read.1 };
-})
-status_with a (Err fault) = None
-
--- the record of the status log that fields are
+-- the record of the status log that fields are, with its stamp
 abbrev pub status_in : Applied → Option StampedStatus
-status_in a = option_and_then (λ text. status_with a (status_of a.key text)) a.value
+status_in a = option_map (λ status. record { stamp = a.stamp; status = status }) (record_in a)
 
 -- the records that frames of the status log are
 abbrev pub statuses_in : List (List Applied) → List StampedStatus

@@ -28,6 +28,7 @@ use Rattle.cw_model.specs.declared.fault.WorldFault.{WorldFault}
 use Rattle.cw_model.specs.declared.row.Row.{Row}
 use Rattle.cw_model.specs.declared.row.RowPhase.TheVariants.{Stable}
 use Rattle.cw_bytes.specs.declared.applied.Applied.{Applied}
+use Rattle.cw_bytes.specs.Frames.{joined}
 use Rattle.cw_keys.specs.Parts.{part_text}
 use Rattle.cw_keys.specs.Offsets.{offset_text}
 use Rattle.cw_offset.specs.declared.body.OffsetEntry.TheVariants.{Records, Mark}
@@ -44,7 +45,7 @@ use Rattle.cw_model.specs.EventsReports.{fail, put_status}
 use Rattle.cw_model.specs.EventsRaw.{raw_init, raw_commit}
 use Rattle.cw_model.specs.EventsMarking.{mark}
 use Rattle.cw_model.specs.State.{Setting, Cluster}
-use Rattle.cw_model.specs.Lookups.{new_row, joined}
+use Rattle.cw_model.specs.Lookups.{new_row}
 use Rattle.cw_model.specs.Bodies.{config_applied}
 use Rattle.cw_model.specs.Answers.{Answer}
 use Rattle.cw_model.specs.EventsWorkers.{spawn, kill, expire}

@@ -1,6 +1,6 @@
 -- What is committed of a source's part: the records of the transactions that were committed since its offset was last
 -- set, one after the other (KIP-618: records and offsets are committed together; KIP-875: offsets are set).
-use Rattle.std.specs.Prelude.{◌≡◌, ℕ, ◌&&◌, Bool, true, false, List, [], Option, Some, None, is_some, if◌then◌else◌}
+use Rattle.std.specs.Prelude.{◌≡◌, ℕ, ◌&&◌, Bool, true, List, [], Option, Some, None, is_some, if◌then◌else◌}
 use Rattle.std.specs.Option.{option_map_or}
 use Rattle.std.specs.List.{find, filter_map, flat_map, list_any, after_last, AllByRecursion}
 use Rattle.cw_types.specs.declared.ids.Tid.{Tid}
@@ -11,6 +11,7 @@ use Rattle.cw_txn.specs.declared.entry.Entry.{Entry}
 use Rattle.cw_txn.specs.declared.entry.Entry.TheVariants.{Bump, Commit, Set}
 use Rattle.cw_types.specs.Same.{same_tag, same_part}
 use Rattle.cw_txn.specs.Legal.{is_committed}
+use Rattle.cw_offset.specs.Compaction.{sets_part}
 use Rattle.cw_data.specs.declared.entry.Batch.{Batch}
 use Rattle.cw_data.specs.declared.entry.DataEntry.{DataEntry}
 use Rattle.cw_data.specs.declared.entry.DataEntry.TheVariants.{Batch as InBatch, Mark}
@@ -39,12 +40,6 @@ is_batch_of tag part batch = same_tag tag batch.tag && same_part part batch.part
 -- whether a span is of a part
 abbrev pub is_span_of : PartKey → Span → Bool
 is_span_of part span = same_part part span.part
-
--- whether an entry sets a part
-abbrev pub sets_part : PartKey → Entry → Bool
-sets_part part (Bump tid) = false
-sets_part part (Commit tag generation spans) = false
-sets_part part (Set tid epoch list) = list_any (λ set. same_part part set.part) list
 
 -- the transaction of a task that an entry commits with a span of a part
 abbrev pub tag_committing : PartKey → Entry → Option Tag

@@ -1,8 +1,9 @@
 -- Which records may stand behind others in the config log (Connect's config topic): a config is one that its class
 -- takes, tasks are committed once each of them has a config and no two share a part, and a stopped connector has no
 -- tasks (KIP-875).
-use Rattle.std.specs.Prelude.{◌≡◌, ℕ, ◌<◌, ◌≤◌, Bool, true, false, List, [], ◌∷◌, ◌++◌, Option, Some, IsSome, unwrap_or}
+use Rattle.std.specs.Prelude.{◌≡◌, ℕ, ◌<◌, ◌≤◌, Bool, true, false, List, [], Option, Some, IsSome, unwrap_or}
 use Rattle.std.specs.Bool.{⊤}
+use Rattle.cw_bytes.specs.Frames.{EachFrom}
 use Rattle.cw_keys.specs.ConfigKeys.{IsConfigKey}
 use Rattle.cw_keys.specs.Configs.{IsConfigValue, is_record}
 use Rattle.cw_keys.specs.declared.config_key.ConfigKey.{ConfigKey}
@@ -17,7 +18,6 @@ use Rattle.cw_config.specs.View.{generation_of, task_count_of, target_of, deferr
 use Rattle.cw_config.specs.Acceptance.{end_of, has_tasks}
 use Rattle.cw_plugin.specs.Parts.{task_of}
 use Rattle.cw_plugin.specs.Tasks.{IsFaultless, parts_at, ShareNone}
-use Rattle.cw_model.specs.Lookups.{EachFrom}
 
 -- the parts of a task whose config waits for its commit
 abbrev pub waiting_parts : List ConfigRecord → List ℕ → ℕ → List PartKey

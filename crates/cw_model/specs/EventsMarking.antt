@@ -1,29 +1,18 @@
 -- The leader marks how transactions ended, in the log that holds their records (KIP-98, control records). That each
 -- log is marked by its own event, in the order of the log, is this project's own.
-use Rattle.std.specs.Prelude.{◌&&◌, Bool, not, List, Option, None, IsSome, unwrap_or}
-use Rattle.std.specs.List.{find, filter_map, list_any}
+use Rattle.std.specs.Prelude.{Bool, Option, None, IsSome, unwrap_or}
 use Rattle.cw_types.specs.declared.ids.Tag.{Tag}
 use Rattle.cw_types.specs.declared.ids.Tid.TheVariants.{Lead}
 use Rattle.cw_types.specs.declared.logs.LogName.{LogName}
 use Rattle.cw_types.specs.declared.logs.LogName.TheVariants.{Config, Offsets, Status, Txn, Batches}
-use Rattle.cw_types.specs.declared.verdict.Verdict.{Verdict}
-use Rattle.cw_types.specs.Same.{same_tag}
 use Rattle.cw_txn.specs.Legal.{is_committed, verdict_of}
-use Rattle.cw_offset.specs.declared.body.OffsetEntry.{OffsetEntry}
 use Rattle.cw_offset.specs.declared.body.OffsetEntry.TheVariants.{Mark}
-use Rattle.cw_types.specs.Verdict.{has_ended}
+use Rattle.cw_offset.specs.Log.{first_unmarked as first_unmarked_offset}
 use Rattle.cw_data.specs.declared.entry.DataEntry.TheVariants.{Mark as DataMark}
 use Rattle.cw_data.specs.Log.{first_unmarked as first_unmarked_data}
 use Rattle.cw_model.specs.State.{Cluster}
-use Rattle.cw_model.specs.Lookups.{offset_tag}
-use Rattle.cw_model.specs.Allowed.{is_marked}
 use Rattle.cw_model.specs.Answers.{Answer, answered, at_open}
 use Rattle.cw_model.specs.Updates.{appends_offset, appends_data}
-
--- the first transaction of the offset log that has ended and has no marker there
-abbrev pub first_unmarked_offset : (Tag → Verdict) → List OffsetEntry → Option Tag
-first_unmarked_offset verdict entries = find (λ tag. not (is_marked tag entries) && has_ended (verdict tag))
-    (filter_map offset_tag entries)
 
 -- the transaction that a log is to mark next
 abbrev pub unmarked_in : LogName → Cluster → Option Tag

@@ -2,18 +2,18 @@
 -- what its whole list says, as Kafka's compacted topics do. They are this project's own.
 use Rattle.std.specs.Prelude.{◌≡◌, ℕ, ◌<◌, ◌≤◌, ◌^◌, true, List, [], length, map, Contains, IsSome}
 use Rattle.std.specs.List.{AllByRecursion}
-use Rattle.cw_types.specs.declared.ids.TaskId.{TaskId}
 use Rattle.cw_types.specs.declared.ids.Item.{Item}
 use Rattle.cw_keys.specs.Statuses.{IsItem, IsStatus}
 use Rattle.cw_config.specs.declared.records.ConfigRecord.{ConfigRecord}
-use Rattle.cw_config.specs.View.{config_of, target_of, generation_of, task_count_of, fenced_count_of, task_of, deferred_of, is_pending}
-use Rattle.cw_config.specs.Acceptance.{end_of}
+use Rattle.cw_config.specs.Compaction.{configs_in, AreConfigs, SaysTheSame}
 use Rattle.cw_status.specs.Statuses.{latest}
 use Rattle.cw_txn.specs.declared.entry.Entry.{Entry}
 use Rattle.cw_txn.specs.Allowed.{AreAllowed}
 use Rattle.cw_txn.specs.Body.{AreEntries}
 use Rattle.cw_bytes.specs.Spelling.{AreRecords}
+use Rattle.cw_bytes.specs.Frames.{EachFrom, joined, next_behind}
 use Rattle.cw_offset.specs.Body.{IsEntry as IsOffsetEntry}
+use Rattle.cw_offset.specs.Acceptance.{AreAllowedStored}
 use Rattle.cw_data.specs.Body.{IsEntry as IsDataEntry}
 use Rattle.cw_data.specs.declared.entry.DataEntry.{DataEntry}
 use Rattle.cw_io.specs.Shelf.{Files}
@@ -21,9 +21,9 @@ use Rattle.cw_model.specs.State.{Cluster, Setting, StampedStatus}
 use Rattle.cw_model.specs.Fences.{StandingFence}
 use Rattle.cw_model.specs.Committed.{is_task, batches_of, BatchAgrees}
 use Rattle.cw_model.specs.ConfigsAllowed.{AreAllowedConfigs}
-use Rattle.cw_model.specs.Lookups.{EachFrom, list_end, joined, next_behind}
-use Rattle.cw_model.specs.Bodies.{config_in, configs_in, status_in, statuses_in, config_length, offsets_length, status_length, txn_length, data_length}
-use Rattle.cw_model.specs.Allowed.{IsAllowedStored, IsAllowedData}
+use Rattle.cw_model.specs.Lookups.{list_end}
+use Rattle.cw_model.specs.Bodies.{status_in, statuses_in, config_length, offsets_length, status_length, txn_length, data_length}
+use Rattle.cw_model.specs.Allowed.{IsAllowedData}
 
 -- the records that stand in the config log
 abbrev pub standing_configs : Cluster → List ConfigRecord
@@ -34,18 +34,6 @@ abbrev pub standing_statuses : Cluster → List StampedStatus
 standing_statuses s = statuses_in s.status.frames
 
 -- ---- the config log
-
--- the records that stand say what the whole list says: whatever is asked of a connector, the answer is the same
-pub record SaysTheSame (standing whole : List ConfigRecord) : Type 0 where
-  pub end : end_of standing ≡ end_of whole
-  pub config : (name : List ℕ) → config_of name standing ≡ config_of name whole
-  pub target : (name : List ℕ) → target_of name standing ≡ target_of name whole
-  pub generation : (name : List ℕ) → generation_of name standing ≡ generation_of name whole
-  pub task_count : (name : List ℕ) → task_count_of name standing ≡ task_count_of name whole
-  pub fenced_count : (name : List ℕ) → fenced_count_of name standing ≡ fenced_count_of name whole
-  pub task : (id : TaskId) → task_of id standing ≡ task_of id whole
-  pub deferred : (id : TaskId) → deferred_of id standing ≡ deferred_of id whole
-  pub pending : (name : List ℕ) → is_pending name standing ≡ is_pending name whole
 
 -- a list of configs, and what stands of it
 pub record ConfigFacts (standing whole : List ConfigRecord) (entries : List Entry) : Type 0 where
@@ -116,7 +104,7 @@ pub record AreWritten (s : Cluster) : Type 0 where
 -- the facts of the logs
 pub record LogFacts (setting : Setting) (s : Cluster) : Type 0 where
   -- each record that stands is read: a compaction, which goes by keys alone, needs it
-  pub configs_read : AllByRecursion (λ a. IsSome (config_in a)) (joined s.config.frames)
+  pub configs_read : AreConfigs s.config.frames
   pub statuses_read : AllByRecursion (λ a. IsSome (status_in a)) (joined s.status.frames)
   pub configs : ConfigFacts (standing_configs s) s.configs s.entries
   pub statuses : StatusFacts (standing_statuses s) s.statuses
@@ -129,7 +117,7 @@ pub record LogFacts (setting : Setting) (s : Cluster) : Type 0 where
   -- each entry of the offset log is allowed behind those before it, by the whole transaction list: what was said of a
   -- transaction stays true as the list grows, since one that was aborted is never committed. The records of a
   -- transaction stand before its marker, so that `compact` leaves none behind it
-  pub offsets : EachFrom (IsAllowedStored s.entries) [] s.offsets.frames
+  pub offsets : AreAllowedStored s.entries s.offsets.frames
   -- each batch and marker is allowed behind those before it, by the whole transaction list: `init` needs it, so that
   -- no batch has the epoch that it gets, and a marker stays true, since what was aborted is never committed
   pub batches : EachFrom (IsAllowedData s.entries) [] s.batches

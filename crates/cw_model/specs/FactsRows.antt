@@ -30,11 +30,18 @@ use Rattle.cw_model.specs.Phases.{is_working, has_epoch, is_fetched, has_open_tr
 
 -- ---- rows
 
--- a fencing is of a generation that its connector had, which isn't above the newest
+-- a fencing is of a generation that its connector had, which isn't above the newest, and counts tasks that have ids:
+-- `fence_one` needs it, whose bump names one of them. It has fenced no more than there are: a tick needs it, which
+-- writes the fence once none is left
+pub record IsBegunFencing (records : List ConfigRecord) (fencing : Fencing) : Type 0 where
+  pub generation : IsSomeAnd (generation_of fencing.connector records) (λ newest. fencing.generation ≤ newest)
+  pub count : fencing.count < 2 ^ 32
+  pub next : fencing.next ≤ fencing.count
+
+-- what a row has begun to fence, if it has
 abbrev pub IsBegun : List ConfigRecord → Option Fencing → Type 0
 IsBegun records None = ⊤
-IsBegun records (Some fencing) = IsSomeAnd (generation_of fencing.connector records)
-    (λ newest. fencing.generation ≤ newest)
+IsBegun records (Some fencing) = IsBegunFencing records fencing
 
 -- the facts of a row
 pub record IsSoundRow (s : Cluster) (row : Row) : Type 0 where
@@ -79,10 +86,12 @@ abbrev pub IsOfItem : List ConfigRecord → Item → Instance → Type 0
 IsOfItem records (Connector name) i = IsConnectorInstance i
 IsOfItem records (Task id) i = IsTaskInstance records id i
 
--- what was handed out begins at the position there, and isn't empty
+-- what was handed out begins at the position there, isn't empty, and ends at an offset that a record can tell:
+-- `put_sink` needs it, which stores that
 pub record HandsOut (i : Instance) (cut : Cut) : Type 0 where
   pub begins : slice_get i.positions cut.turn ≡ Some cut.from
   pub some : cut.from < cut.to
+  pub fits : cut.to < 2 ^ 64
 
 -- the facts of an instance
 pub record IsSoundInstance (s : Cluster) (i : Instance) : Type 0 where

@@ -1,21 +1,21 @@
 -- The journal of the calls that were answered: what a reply saw, when an entry is true, and the event that keeps one.
 -- Kafka Connect has no such journal: it is this project's own, and by it a reader's replies never go back, and hold
 -- what the reader wrote.
-use Rattle.std.specs.Prelude.{◌≡◌, ◌⊎◌, ◌+◌, ◌<◌, ◌≤◌, ℕ, ◌&&◌, ◌==◌, Bool, true, false, not, List, [], ◌∷◌, ◌++◌, length, map, take, drop, nat_le, nat_lt, Option, IsSome, if◌then◌else◌}
-use Rattle.std.specs.Bool.{⊤}
+use Rattle.std.specs.Prelude.{◌≡◌, ◌⊎◌, ◌<◌, ◌≤◌, ℕ, ◌&&◌, ◌==◌, Bool, true, false, List, [], ◌∷◌, ◌++◌, length, map, take, drop, nat_le, nat_lt, IsSome, if◌then◌else◌}
 use Rattle.std.specs.Option.{option_map_or}
 use Rattle.std.specs.List.{AllByRecursion}
 use Rattle.cw_types.specs.declared.ids.Tid.TheVariants.{Lead}
 use Rattle.cw_types.specs.declared.logs.LogName.TheVariants.{Config, Txn}
 use Rattle.cw_io.specs.Shelf.{names_of}
-use Rattle.cw_rest.specs.declared.reply.Reply.{Reply}
-use Rattle.cw_rest.specs.Seen.{Seen, KeyedValues}
-use Rattle.cw_rest.specs.Calls.{Deed, reads, reads_configs, writes_configs, writes_offsets, restarts, deed_of, is_reading}
+use Rattle.cw_route.specs.declared.reply.Reply.{Reply}
+use Rattle.cw_rest.specs.Seen.{Seen}
+use Rattle.cw_rest.specs.Calls.{Deed, reads_configs, writes_configs, writes_offsets, deed_of, is_reading}
 use Rattle.cw_rest.specs.Messages.{memory_reply, full_reply, failed_reply}
 use Rattle.cw_rest.specs.Replies.{reply_to, values_of, entries_of}
 use Rattle.cw_model.specs.declared.journal.JournalEntry.{JournalEntry}
 use Rattle.cw_model.specs.State.{Setting, Cluster}
-use Rattle.cw_model.specs.Lookups.{EachFrom, row_of, last_epoch, list_end}
+use Rattle.cw_bytes.specs.Frames.{EachFrom}
+use Rattle.cw_model.specs.Lookups.{row_of, last_epoch, list_end}
 use Rattle.cw_model.specs.Answers.{Answer, answered}
 use Rattle.cw_model.specs.Updates.{stamped, fits_configs, fits_entries, epoch_in}
 use Rattle.cw_model.specs.Ready.{ready}

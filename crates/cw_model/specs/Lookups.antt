@@ -1,15 +1,12 @@
 -- What is looked up in a state: a worker's row, an instance, what a worker has read of the config log, what it holds,
--- which items are configured, and what stands in the logs of offsets and transactions.
-use Rattle.std.specs.Prelude.{ℕ, ◌+◌, ◌==◌, ◌&&◌, Bool, true, false, not, List, [], ◌∷◌, ◌++◌, length, map, take, drop, nat_lt, slice_index_or, Option, Some, None, max, unwrap_or, is_some}
-use Rattle.std.specs.Bool.{⊤}
-use Rattle.std.specs.List.{filter, filter_map, flat_map, fold, range_with_len}
+-- which items are configured, and what stands in the transaction list.
+use Rattle.std.specs.Prelude.{ℕ, ◌==◌, ◌&&◌, Bool, true, false, not, List, [], ◌∷◌, length, map, take, drop, nat_lt, slice_index_or, Option, Some, None, unwrap_or, is_some}
+use Rattle.std.specs.List.{filter, filter_map, flat_map, range_with_len}
 use Rattle.cw_types.specs.declared.ids.Item.{Item}
 use Rattle.cw_types.specs.declared.ids.Item.TheVariants.{Connector, Task}
 use Rattle.cw_types.specs.declared.ids.Tid.{Tid}
 use Rattle.cw_types.specs.declared.ids.Tid.TheVariants as producer
-use Rattle.cw_types.specs.declared.ids.Tag.{Tag}
 use Rattle.cw_types.specs.declared.ids.PartKey.{PartKey}
-use Rattle.cw_bytes.specs.declared.applied.Applied.{Applied}
 use Rattle.cw_assign.specs.Items.{in_order}
 use Rattle.cw_group.specs.Members.{member_of}
 use Rattle.cw_group.specs.declared.member.Member.{Member}
@@ -19,8 +16,6 @@ use Rattle.cw_txn.specs.declared.entry.Entry.{Entry}
 use Rattle.cw_txn.specs.History.{end_of}
 use Rattle.cw_txn.specs.Legal.{epoch_of}
 use Rattle.cw_rest.specs.Seen.{connector_key}
-use Rattle.cw_offset.specs.declared.body.OffsetEntry.{OffsetEntry}
-use Rattle.cw_offset.specs.declared.body.OffsetEntry.TheVariants.{Records, Mark}
 use Rattle.cw_model.specs.declared.row.Row.{Row}
 use Rattle.cw_model.specs.declared.row.RowPhase.TheVariants.{Out}
 use Rattle.cw_model.specs.declared.instance.Instance.{Instance}
@@ -141,11 +136,6 @@ task_connector (producer.Raw n) = None
 abbrev pub end_or_start : PartKey → List Entry → ℕ
 end_or_start part entries = unwrap_or (end_of part entries) 0
 
--- a fact of each member of a list and of all those before it
-abbrev pub EachFrom : {A : Type 0} → (List A → A → Type 0) → List A → List A → Type 0
-EachFrom P before [] = ⊤
-EachFrom P before (x ∷ xs) = P before x × EachFrom P (before ++ x ∷ []) xs
-
 -- the place behind the last entry of the transaction list: how long the list is
 abbrev pub list_end : List Entry → ℕ
 list_end entries = length entries
@@ -153,30 +143,3 @@ list_end entries = length entries
 -- the entries from a place on
 abbrev pub from_place : ℕ → List Entry → List Entry
 from_place place entries = drop place entries
-
--- frames one behind the other
-abbrev pub joined : {A : Type 0} → List (List A) → List A
-joined frames = flat_map (λ frame. frame) frames
-
--- one above the greatest of these offsets, 0 where there is none
-abbrev pub next_behind : List ℕ → ℕ
-next_behind offsets = fold (λ end offset. max end (offset + 1)) 0 offsets
-
--- the offset behind those of these records
-abbrev pub next_after : List Applied → ℕ
-next_after records = next_behind (map (λ r. r.offset) records)
-
--- the records of an entry of the offset log
-abbrev pub offset_records : OffsetEntry → List Applied
-offset_records (Records tag records) = records
-offset_records (Mark mark) = []
-
--- the transaction of its records
-abbrev pub offset_tag : OffsetEntry → Option Tag
-offset_tag (Records tag records) = Some tag
-offset_tag (Mark mark) = None
-
--- the transaction that it marks
-abbrev pub offset_mark : OffsetEntry → Option Tag
-offset_mark (Records tag records) = None
-offset_mark (Mark mark) = Some mark.tag

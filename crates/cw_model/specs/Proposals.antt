@@ -5,7 +5,7 @@ use Rattle.std.specs.Prelude.{ℕ, ◌&&◌, Bool, true, false, not, List, [], �
 use Rattle.std.specs.Option.{option_eq, option_map_or}
 use Rattle.std.specs.List.{range_with_len, enumerate_from}
 use Rattle.std.specs.Cmp.Lexicographic.{pointwise}
-use Rattle.cw_types.specs.declared.ids.TaskId.{TaskId}
+use Rattle.cw_types.specs.Task.{task_id}
 use Rattle.cw_keys.specs.declared.target.Target.{Target}
 use Rattle.cw_keys.specs.declared.target.Target.TheVariants.{Started, Paused, Stopped}
 use Rattle.cw_keys.specs.declared.config_key.ConfigKey.{ConfigKey}
@@ -15,10 +15,6 @@ use Rattle.cw_keys.specs.declared.config_value.ConfigValue.TheVariants as value
 use Rattle.cw_config.specs.declared.records.ConfigRecord.{ConfigRecord}
 use Rattle.cw_config.specs.View.{Properties, config_of, target_of, task_count_of, task_of, deferred_of}
 use Rattle.cw_plugin.specs.Tasks.{task_configs}
-
--- a task of a connector
-abbrev pub task_id : List ℕ → ℕ → TaskId
-task_id name index = record { connector = name; index = index }
 
 -- the tasks' configs that a connector's config asks for
 abbrev pub proposal_of : List ℕ → List ConfigRecord → List Properties

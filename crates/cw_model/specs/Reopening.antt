@@ -1,8 +1,10 @@
 -- What the log files hold at a moment and open to, and what a disk that fails and want of memory do to an event. All
 -- of it is this project's own, as are the files.
-use Rattle.std.specs.Prelude.{◌≡◌, ◌⊎◌, ℕ, List, [], map, Option, Some, None, Result, Err}
+use Rattle.std.specs.Prelude.{◌≡◌, ◌⊎◌, ℕ, List, [], map, Some, None, Err}
 use Rattle.cw_types.specs.declared.logs.DiskName.{DiskName}
 use Rattle.cw_bytes.specs.Spelling.{records_bytes}
+use Rattle.cw_bytes.specs.Frames.{joined}
+use Rattle.cw_config.specs.Compaction.{configs_in}
 use Rattle.cw_assign.specs.declared.delay.Delay.TheVariants.{Idle}
 use Rattle.cw_group.specs.Group.{empty_group}
 use Rattle.cw_txn.specs.Body.{entries_bytes}
@@ -10,8 +12,7 @@ use Rattle.cw_offset.specs.Body.{entry_bytes as offset_body}
 use Rattle.cw_data.specs.Body.{entry_bytes as data_body}
 use Rattle.cw_model.specs.declared.fault.WorldFault.TheVariants.{Memory, StoreFault}
 use Rattle.cw_model.specs.State.{Cluster, Paired}
-use Rattle.cw_model.specs.Lookups.{joined}
-use Rattle.cw_model.specs.Bodies.{configs_in, statuses_in}
+use Rattle.cw_model.specs.Bodies.{statuses_in}
 use Rattle.cw_model.specs.Answers.{Answer, refused}
 use Rattle.cw_model.specs.StandsFor.{Stored}
 

@@ -12,7 +12,9 @@ use Rattle.cw_types.specs.declared.logs.LogName.TheVariants.{Config, Offsets, St
 use Rattle.cw_bytes.specs.declared.applied.Applied.{Applied}
 use Rattle.cw_bytes.specs.Unread.{Unread}
 use Rattle.cw_bytes.specs.Reading.{Read, records_at, body_at}
+use Rattle.cw_bytes.specs.Frames.{EachFrom, joined}
 use Rattle.cw_config.specs.declared.records.ConfigRecord.{ConfigRecord}
+use Rattle.cw_config.specs.Compaction.{config_in, configs_in}
 use Rattle.cw_log.specs.declared.fault.Harm.{Harm}
 use Rattle.cw_log.specs.declared.fault.Harm.TheVariants.{Magic, Version, Kind, Header, SameSide, Length, Content, Unsafe}
 use Rattle.cw_assign.specs.declared.delay.Delay.TheVariants.{Idle}
@@ -24,16 +26,18 @@ use Rattle.cw_txn.specs.Allowed.{IsAllowedBehind}
 use Rattle.cw_txn.specs.BodyReading.{entries_at}
 use Rattle.cw_offset.specs.declared.body.OffsetEntry.{OffsetEntry}
 use Rattle.cw_offset.specs.BodyReading.{entry_at as stored_at}
+use Rattle.cw_offset.specs.Acceptance.{IsAllowedStored}
+use Rattle.cw_status.specs.Compaction.{IsAllowedStatus}
 use Rattle.cw_data.specs.declared.entry.Batch.{Batch}
 use Rattle.cw_data.specs.declared.entry.DataEntry.{DataEntry}
 use Rattle.cw_data.specs.BodyReading.{entry_at as data_at}
 use Rattle.cw_model.specs.State.{Setting, Cluster, Paired}
-use Rattle.cw_model.specs.Lookups.{EachFrom, joined, list_end}
-use Rattle.cw_model.specs.Bodies.{config_in, configs_in, statuses_in}
+use Rattle.cw_model.specs.Lookups.{list_end}
+use Rattle.cw_model.specs.Bodies.{statuses_in}
 use Rattle.cw_model.specs.Fences.{StandingFence, IsNotOlder}
 use Rattle.cw_model.specs.Committed.{is_task, batches_of, is_batch_of, Agrees}
 use Rattle.cw_model.specs.ConfigsAllowed.{IsAllowedConfig}
-use Rattle.cw_model.specs.Allowed.{IsAllowedStatus, IsAllowedStored, IsAllowedData}
+use Rattle.cw_model.specs.Allowed.{IsAllowedData}
 
 -- what the files of the five logs hold: the bodies of their frames, of a pair those of its chosen side, and that
 -- side's number

@@ -2,7 +2,7 @@
 -- its log, and as its stamp how long the transaction list was (this project's own). A log that has no room for a
 -- frame, or no offset for a record, is full. A leader or a task that writes under an epoch that isn't its producer's
 -- last is fenced (KIP-98, KIP-618).
-use Rattle.std.specs.Prelude.{ℕ, ◌+◌, ◌^◌, ◌==◌, ◌&&◌, Bool, List, [], ◌∷◌, ◌++◌, map, length, nat_lt, slice_set, Option, Some, None, if◌then◌else◌}
+use Rattle.std.specs.Prelude.{ℕ, ◌+◌, ◌^◌, ◌==◌, ◌&&◌, Bool, List, [], ◌∷◌, ◌++◌, map, nat_lt, slice_set, Option, Some, None, if◌then◌else◌}
 use Rattle.std.specs.List.{flat_map, list_all}
 use Rattle.cw_types.specs.declared.ids.Epoch.{Epoch}
 use Rattle.cw_types.specs.declared.ids.TaskId.{TaskId}
@@ -11,6 +11,7 @@ use Rattle.cw_types.specs.declared.ids.Item.TheVariants.{Connector, Task}
 use Rattle.cw_types.specs.declared.ids.Tid.{Tid}
 use Rattle.cw_types.specs.declared.ids.Tid.TheVariants.{Lead, Task as TaskTid}
 use Rattle.cw_types.specs.declared.logs.LogName.TheVariants.{Config, Offsets, Status, Txn, Batches}
+use Rattle.cw_bytes.specs.Frames.{next_behind, next_after}
 use Rattle.cw_config.specs.declared.records.ConfigRecord.{ConfigRecord}
 use Rattle.cw_config.specs.Acceptance.{end_of}
 use Rattle.cw_txn.specs.declared.entry.Entry.{Entry}
@@ -18,6 +19,7 @@ use Rattle.cw_txn.specs.declared.entry.Entry.TheVariants.{Bump}
 use Rattle.cw_txn.specs.Body.{entries_bytes}
 use Rattle.cw_offset.specs.declared.body.OffsetEntry.{OffsetEntry}
 use Rattle.cw_offset.specs.Body.{entry_bytes as offset_body}
+use Rattle.cw_offset.specs.Log.{offset_records}
 use Rattle.cw_data.specs.declared.entry.DataEntry.{DataEntry}
 use Rattle.cw_data.specs.Body.{entry_bytes as data_body}
 use Rattle.cw_rest.specs.Seen.{KeyedValues, records_behind}
@@ -27,7 +29,7 @@ use Rattle.cw_model.specs.declared.instance.Instance.{Instance}
 use Rattle.cw_model.specs.declared.instance.InstancePhase.{InstancePhase}
 use Rattle.cw_model.specs.declared.instance.InstancePhase.TheVariants.{Ended}
 use Rattle.cw_model.specs.State.{Cluster, StampedStatus}
-use Rattle.cw_model.specs.Lookups.{row_of, instance_of, last_epoch, list_end, next_behind, next_after, offset_records}
+use Rattle.cw_model.specs.Lookups.{row_of, instance_of, last_epoch, list_end}
 use Rattle.cw_model.specs.Answers.{Answer, refused, answered}
 use Rattle.cw_model.specs.Bodies.{config_applied, status_applied, config_body, status_body, config_length, offsets_length, status_length, txn_length, data_length, frame_of, has_room}
 

@@ -1,6 +1,5 @@
 //! The calls that were answered.
-use cw_rest::Reply;
-use cw_route::Call;
+use cw_route::{Call, Reply};
 
 /// A call of the REST API that was answered, and how much of the session lists the reply saw.
 #[derive(Debug, Drop)]

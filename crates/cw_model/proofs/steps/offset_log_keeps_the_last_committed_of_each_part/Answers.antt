@@ -1,14 +1,9 @@
--- Computed, down to the bytes of each frame.
-use Rattle.std.specs.Prelude.{refl}
-use Rattle.std.specs.Fmt.{digits}
-use Rattle.json.specs.Print.{escape_byte}
-use Rattle.cw_bytes.specs.Spelling.{word, long, text}
+-- The first of two offsets goes, with its marker.
+use Rattle.cw_model.proofs.TwiceCommitted.{counts, frames}
 use Rattle.cw_model.proofs.steps.offset_log_keeps_the_last_committed_of_each_part.Goals as goal
 
 pub returns-clause-counts : goal.returns-clause-counts
-unfolding word long text escape_byte digits
-returns-clause-counts c = refl
+returns-clause-counts c = counts
 
 pub returns-clause-stays : goal.returns-clause-stays
-unfolding word long text escape_byte digits
-returns-clause-stays c = refl
+returns-clause-stays c = frames
