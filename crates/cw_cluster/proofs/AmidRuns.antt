@@ -1,0 +1,59 @@
+-- Where a line is left on its way, what it did is a run.
+use Rattle.std.proofs.Common.{◌≡◌, ◌⊎◌, inl, inr, ℕ, true, IsSome, refl, sym, subst}
+use Rattle.cw_script.specs.declared.directive.Directive.{Directive}
+use Rattle.cw_script.specs.declared.directive.Directive.TheVariants.{Init, Commit, Spawn, Kill, Deaf, Hear, Expire, Clock, Tick, Step, Settle, Rest, Held, Member, Take, Compact}
+use Rattle.cw_script.specs.Spelling.{IsSayable}
+use Rattle.cw_route.specs.HeldNames.{HoldsName}
+use Rattle.cw_route.specs.declared.call.Call.{Call}
+use Rattle.cw_rest.specs.Calls.{Deed, reads, reads_configs, writes_configs, writes_offsets, restarts, deed_of}
+use Rattle.cw_rest.specs.Replies.{values_of, offsets_of, connector_set}
+use Rattle.cw_model.specs.State.{Setting, Cluster}
+use Rattle.cw_model.specs.Facts.{AreFacts}
+use Rattle.cw_model.specs.Lookups.{row_of}
+use Rattle.cw_model.specs.Runs as step
+use Rattle.cw_cluster.specs.Amid.{IsAmid, written}
+use Rattle.cw_cluster.specs.Directives.{does}
+use Rattle.cw_cluster.specs.Reaches.{Reaches, HaveNames}
+use Rattle.cw_cluster.specs.Requests.{seen_now, would_succeed, call_of}
+use Rattle.cw_cluster.proofs.BodyTexts.{call-written}
+use Rattle.cw_cluster.proofs.LineRuns.{directive-runs, request-named}
+use Rattle.cw_cluster.proofs.Reaching.{stays, makes}
+use Rattle.cw_cluster.proofs.RequestRuns.{ready-leads, configs-may, sets-may}
+use Rattle.cw_cluster.proofs.SettleRuns.{settled-runs}
+
+module _ (setting : Setting) (feeds : HaveNames setting) (s : Cluster) (f : AreFacts setting s) where
+  written-run : (w leader : ℕ) (call : Call) → HoldsName call → IsSome (row_of leader s).lead → would_succeed setting w call s ≡ true → (deed : Deed) → deed_of call ≡ deed →
+      Reaches setting s (written setting w call deed leader s)
+  written-run w leader call named leads succeeds reads is = stays setting s
+  written-run w leader call named leads succeeds reads_configs is = stays setting s
+  written-run w leader call named leads succeeds writes_configs is =
+      makes setting s (step.append_config leader (values_of call)) (configs-may setting s f w call named (call-written call named) feeds is leader leads succeeds)
+  written-run w leader call named leads succeeds writes_offsets is =
+      makes setting s (step.set_offsets leader (connector_set call) (offsets_of (seen_now setting w call s) call)) (sets-may setting s f w call named is leader leads succeeds)
+  written-run w leader call named leads succeeds restarts is = stays setting s
+
+  either-run : (d : Directive) (t : Cluster) → IsSayable d → (t ≡ s) ⊎ (t ≡ (does setting d s).1) → Reaches setting s t
+  either-run d t is (inl same) = subst (Reaches setting s) (sym same) (stays setting s)
+  either-run d t is (inr same) = subst (Reaches setting s) (sym same) (directive-runs setting feeds d is s f)
+
+  pub amid-runs : (d : Directive) (t : Cluster) → IsSayable d → IsAmid setting d s t → Reaches setting s t
+  amid-runs (Settle most) t is amid = subst (Reaches setting s) (sym amid.is) (settled-runs setting s f amid.moved)
+  amid-runs (Rest w method target body) t is (inl same) = subst (Reaches setting s) (sym same) (stays setting s)
+  amid-runs (Rest w method target body) t is (inr (inl half)) =
+      let call : Call = call_of method target body in
+      subst (Reaches setting s) (sym half.is) (written-run w half.leader call (request-named method target body) (ready-leads w half.leader s half.through) half.succeeds (deed_of call) refl)
+  amid-runs (Rest w method target body) t is (inr (inr same)) = subst (Reaches setting s) (sym same) (directive-runs setting feeds (Rest w method target body) is s f)
+  amid-runs (Init n) t is amid = either-run (Init n) t is amid
+  amid-runs (Commit n epoch pairs) t is amid = either-run (Commit n epoch pairs) t is amid
+  amid-runs Spawn t is amid = either-run Spawn t is amid
+  amid-runs (Kill w) t is amid = either-run (Kill w) t is amid
+  amid-runs (Deaf w) t is amid = either-run (Deaf w) t is amid
+  amid-runs (Hear w) t is amid = either-run (Hear w) t is amid
+  amid-runs (Expire w) t is amid = either-run (Expire w) t is amid
+  amid-runs (Clock to) t is amid = either-run (Clock to) t is amid
+  amid-runs (Tick w) t is amid = either-run (Tick w) t is amid
+  amid-runs (Step i) t is amid = either-run (Step i) t is amid
+  amid-runs (Held w) t is amid = either-run (Held w) t is amid
+  amid-runs (Member w) t is amid = either-run (Member w) t is amid
+  amid-runs (Take topic from) t is amid = either-run (Take topic from) t is amid
+  amid-runs (Compact name) t is amid = either-run (Compact name) t is amid

@@ -1,0 +1,14 @@
+pub mod Altering
+pub mod AmidRuns
+pub mod BodyTexts
+pub mod Faultless
+pub mod JsonStrings
+pub mod JsonTexts
+pub mod LineRuns
+pub mod Reaching
+pub mod RequestRuns
+pub mod ScriptRuns
+pub mod SettleRuns
+pub mod StepRuns
+pub mod TickRuns
+pub mod Writing

@@ -1,0 +1,11 @@
+pub mod Directives
+pub mod Answers
+pub mod Requests
+pub mod Settling
+pub mod Looks
+pub mod Lines
+pub mod Plays
+pub mod Run
+pub mod Amid
+pub mod Reaches
+pub mod Scripts
