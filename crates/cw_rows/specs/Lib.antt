@@ -1,0 +1,3 @@
+pub mod Crew
+pub mod Kept
+pub mod Writes
