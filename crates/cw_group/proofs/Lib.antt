@@ -1,3 +1,5 @@
 pub mod PlaceLemmas
 pub mod GroupLemmas
 pub mod RowLemmas
+pub mod CountLemmas
+pub mod CircleLemmas

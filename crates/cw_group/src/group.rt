@@ -1,5 +1,5 @@
 //! The group.
-ghost use Rattle.std.specs.Prelude.{◌≡◌, ◌≢◌, ◌<◌, ℕ, List, Some, None, Ok, Err, IfOk, IsOk, OnErr, MatchResult, MatchOption, option_copied, false, is_some, length, slice_index_or};
+ghost use Rattle.std.specs.Prelude.{◌≡◌, ◌≢◌, ◌<◌, ◌≤◌, ◌+◌, ℕ, List, [], Some, None, Ok, Err, IfOk, IsOk, OnOk, OnErr, MatchResult, MatchOption, option_copied, false, is_some, length, slice_index_or};
 ghost use Rattle.std.specs.List.{IsDistinct};
 ghost use Rattle.std.specs.Option.{option_map, option_map_or};
 ghost use Rattle.cw_assign.specs.Items.{same_item};
@@ -73,6 +73,7 @@ impl Group {
             (incarnation ≡ next self.old.made) × (self.new ≡ enters worker self.old)) }
         ensures err { OnErr result (self.new ≡ self.old) }
         ensures memory { (fault : GroupFault) → result ≡ Err fault → fault ≡ GroupFault.Memory }
+        ensures count { length self.new.members ≤ length self.old.members + 1 }
     {
         let incarnation = self.made.saturating_add(1);
         let member = Member::new(self.alloc, worker, incarnation);
@@ -165,10 +166,12 @@ impl Group {
     }
 
     /// A member joins the round and says what it holds, each item once, which becomes its claim; a round that
-    /// isn't open gives way to the next one. The answer is the round.
+    /// isn't open gives way to the next one. The answer is the round. One that holds nothing joins without memory.
     pub fn join(&mut self, worker: u32, incarnation: u64, held: &[Item]) -> Result<u64, GroupFault>
         requires { IsDistinct same_item held.now }
-        ensures { Does (join_row worker incarnation held.now self.old) self.old self.new result }
+        ensures row { Does (join_row worker incarnation held.now self.old) self.old self.new result }
+        ensures nothing { held.now ≡ [] → result ≢ Err GroupFault.Memory }
+        ensures count { length self.new.members ≡ length self.old.members }
     {
         let at = self.joining(worker, incarnation, held)?;
         let claim = copies(self.alloc, held)?;
@@ -179,11 +182,12 @@ impl Group {
 
     // The place of a member that may join with these items.
     fn joining(&self, worker: u32, incarnation: u64, held: &[Item]) -> Result<usize, GroupFault>
-        ensures { MatchResult result
+        ensures place { MatchResult result
             (λ at. IsPlace worker self.now.members at
             × ((d : Member) →
             join_refusal incarnation held.now self.now.phase (slice_index_or self.now.members at d) ≡ None))
             (λ fault. fault ≢ GroupFault.Memory → join_row worker incarnation held.now self.now ≡ Err fault) }
+        ensures nothing { held.now ≡ [] → result ≢ Err GroupFault.Memory }
     {
         let Some(at) = place_of(&self.members, worker) else {
             return Err(GroupFault::Unknown);
@@ -204,8 +208,9 @@ impl Group {
     /// A member departs, as one that was silent for too long, and a round that isn't open gives way to the
     /// next one. The answer is what it was allowed to run. It takes no memory.
     pub fn expire(&mut self, worker: u32) -> Result<Vec<Item>, GroupFault>
-        ensures { MatchResult result (λ claim. expire_row worker self.old ≡ Ok (claim.items, self.new))
+        ensures row { MatchResult result (λ claim. expire_row worker self.old ≡ Ok (claim.items, self.new))
             (λ fault. (self.new ≡ self.old) × (expire_row worker self.old ≡ Err fault)) }
+        ensures count { OnOk result (length self.new.members + 1 ≡ length self.old.members) }
     {
         let Some(at) = place_of(&self.members, worker) else {
             return Err(GroupFault::Unknown);
@@ -217,8 +222,9 @@ impl Group {
 
     /// Closes a round in which all members have joined. It takes no memory.
     pub fn close_round(&mut self, worker: u32, round: u64) -> Result<(), GroupFault>
-        ensures { MatchResult result (λ _. close_row worker round self.old ≡ Ok self.new)
+        ensures row { MatchResult result (λ _. close_row worker round self.old ≡ Ok self.new)
             (λ fault. (self.new ≡ self.old) × (close_row worker round self.old ≡ Err fault)) }
+        ensures count { length self.new.members ≡ length self.old.members }
     {
         let Some(_) = member_at(&self.members, worker) else {
             return Err(GroupFault::Unknown);
@@ -247,9 +253,11 @@ impl Group {
     ) -> Result<(), GroupFault>
         requires { IsOk (store_row worker round plan.now.shares planned.now self.old) →
             MayStore self.old.members planned.now plan.now }
-        ensures { MatchResult result (λ _. store_row worker round plan.now.shares planned.now self.old ≡ Ok self.new)
+        ensures row { MatchResult result
+            (λ _. store_row worker round plan.now.shares planned.now self.old ≡ Ok self.new)
             (λ fault. (self.new ≡ self.old) × (fault ≢ GroupFault.Memory →
             store_row worker round plan.now.shares planned.now self.old ≡ Err fault)) }
+        ensures count { length self.new.members ≡ length self.old.members }
     {
         self.storing(worker, round)?;
         let planned = copies(self.alloc, planned)?;

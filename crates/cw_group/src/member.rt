@@ -1,5 +1,5 @@
 //! Members, in the order of their numbers.
-ghost use Rattle.std.specs.Prelude.{◌≡◌, ◌<◌, ◌≤◌, ◌∷◌, [], ◌++◌, ℕ, None, Some, IfOk, OnOk, OnErr, MatchOption, length, map, remove, slice_index_or, slice_set, option_copied, not, false, if◌then◌else◌};
+ghost use Rattle.std.specs.Prelude.{◌≡◌, ◌<◌, ◌≤◌, ◌∷◌, [], ◌++◌, ℕ, None, Some, IfOk, IsOk, OnOk, OnErr, MatchOption, length, map, remove, slice_index_or, slice_set, option_copied, not, false, if◌then◌else◌};
 ghost use Rattle.std.specs.List.{find};
 ghost use Rattle.std.specs.Option.{option_map};
 ghost use Rattle.cw_assign.specs.Items.{has, in_order};
@@ -220,7 +220,8 @@ pub(crate) fn holders(alloc: Global, members: &[Member]) -> Result<Vec<Holder>, 
 
 /// A copy of each item.
 pub(crate) fn copies(alloc: Global, items: &[Item]) -> Result<Vec<Item>, AllocError>
-    ensures { IfOk result (λ copies. copies.items ≡ items.now) }
+    ensures items { IfOk result (λ copies. copies.items ≡ items.now) }
+    ensures nothing { items.now ≡ [] → IsOk result }
 {
     let mut copies = Vec::new(alloc);
     for item in items {
@@ -235,8 +236,12 @@ pub(crate) fn first_unclaimed(
     claim: &[Item],
     held: &[Item],
 ) -> Result<Option<Item>, AllocError>
-    ensures { IfOk result (λ item. item ≡ find (λ x. not (has claim.now x)) held.now) }
+    ensures first { IfOk result (λ item. item ≡ find (λ x. not (has claim.now x)) held.now) }
+    ensures nothing { held.now ≡ [] → IsOk result }
 {
+    if held.is_empty() {
+        return Ok(None);
+    }
     let set = ItemSet::of(alloc, claim)?;
     for item in held {
         if !set.has(item) {
