@@ -26,6 +26,7 @@ use Rattle.cw_offset.specs.declared.body.OffsetEntry.TheVariants.{Records, Mark}
 use Rattle.cw_offset.specs.Acceptance.{IsKnown, IsAllowedStored, AreAllowedStored}
 use Rattle.cw_offset.specs.Body.{IsEntry as IsOffsetEntry}
 use Rattle.cw_offset.specs.Log.{offset_tag, is_marked, first_unmarked}
+use Rattle.cw_offset.proofs.Places.{first_unmarked_is}
 use Rattle.cw_data.specs.declared.entry.Batch.{Batch}
 use Rattle.cw_data.specs.declared.entry.DataEntry.{DataEntry}
 use Rattle.cw_data.specs.declared.entry.DataEntry.TheVariants.{Batch as InBatch, Mark as DataMark}
@@ -113,7 +114,7 @@ module _ (setting : Setting) (s : Cluster) (tag : Tag) (is : first_unmarked (ver
   offset_test t = not (is_marked t s.offsets.frames) && has_ended (verdict_of s.entries t)
 
   marks-offset : IsFound offset_test (filter_map offset_tag s.offsets.frames) tag
-  marks-offset = found offset_test (filter_map offset_tag s.offsets.frames) tag is
+  marks-offset = found offset_test (filter_map offset_tag s.offsets.frames) tag (sym (first_unmarked_is s.offsets.frames (verdict_of s.entries)) ∙ is)
 
   pub offset-allowed : AreAllowedStored s.entries s.offsets.frames → IsAllowedStored s.entries s.offsets.frames (offset_marker tag s.entries)
   offset-allowed each = record {

@@ -17,10 +17,10 @@ use Rattle.cw_offset.specs.declared.body.OffsetEntry.{OffsetEntry}
 use Rattle.cw_offset.specs.declared.body.OffsetEntry.TheVariants.{Records, Mark}
 use Rattle.cw_offset.specs.declared.call.OffsetCall.{OffsetCall}
 use Rattle.cw_offset.specs.declared.call.OffsetCall.TheVariants.{Put, Commit, Abort}
-use Rattle.cw_offset.specs.Log.{has_records}
+use Rattle.cw_offset.specs.Log.{has_records, marks_in}
 use Rattle.cw_offset.specs.Offsets.{mark_in, marker_of, is_commit, said_in}
 use Rattle.cw_offset.specs.Compaction.{is_aborted, is_outdated, offset_goes, records_staying, is_filled, offset_stays}
-use Rattle.cw_offset.specs.Replay.{put_in, puts_in, puts_of, marks_in}
+use Rattle.cw_offset.specs.Replay.{put_in, puts_in, puts_of}
 use Rattle.cw_offset.proofs.Replays.{option_or-none, said_by, said_by-append}
 
 abbrev Said : Type 0

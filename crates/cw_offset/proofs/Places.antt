@@ -9,6 +9,7 @@ use Rattle.std.proofs.lemmas.List.Elements.{filter_map-append}
 use Rattle.std.proofs.lemmas.List.Folds.{list_any-append, find-append}
 use Rattle.cw_types.specs.declared.ids.Tag.{Tag}
 use Rattle.cw_types.specs.declared.ids.PartKey.{PartKey}
+use Rattle.cw_types.specs.declared.verdict.Verdict.{Verdict}
 use Rattle.cw_types.specs.Same.{same_tag}
 use Rattle.cw_types.specs.Verdict.{has_ended}
 use Rattle.cw_bytes.specs.declared.applied.Applied.{Applied}
@@ -22,10 +23,10 @@ use Rattle.cw_offset.specs.declared.body.OffsetEntry.{OffsetEntry}
 use Rattle.cw_offset.specs.declared.body.OffsetEntry.TheVariants.{Records, Mark}
 use Rattle.cw_offset.specs.declared.call.OffsetCall.{OffsetCall}
 use Rattle.cw_offset.specs.declared.call.OffsetCall.TheVariants.{Stand, Put, Commit, Abort, Set}
-use Rattle.cw_offset.specs.Log.{offset_tag, offset_mark, is_marked}
-use Rattle.cw_offset.specs.Offsets.{mark_in, marker_of, tag_in, if_unmarked, waiting}
-use Rattle.cw_offset.specs.Replay.{put_in, puts_in, puts_of, calls_at, marks_in, told_in, replayed, AreUnmarked, GoesByPlace}
-use Rattle.cw_offset.proofs.Replays.{plain-append, ArePlain, marker_of-append, marker_of-plain, stands_plain, records_plain, puts_plain}
+use Rattle.cw_offset.specs.Log.{offset_tag, offset_mark, is_marked, marks_in, first_unmarked}
+use Rattle.cw_offset.specs.Offsets.{mark_in, marker_of, tag_in, if_unmarked, waiting, first_unmarked as first_of_calls}
+use Rattle.cw_offset.specs.Replay.{put_in, puts_in, puts_of, calls_at, told_in, replayed, AreUnmarked, GoesByPlace}
+use Rattle.cw_offset.proofs.Replays.{option_or-none, plain-append, ArePlain, marker_of-append, marker_of-plain, stands_plain, records_plain, puts_plain}
 use Rattle.cw_offset.proofs.Same.{entries_plain}
 
 -- ---- calls none of which stands behind its transaction's marker
@@ -286,6 +287,37 @@ find-same : (p q : Tag → Bool) → ((t : Tag) → p t ≡ q t) → (tags : Lis
 find-same p q same [] = refl
 find-same p q same (tag ∷ tags) = ap (λ (b : Bool). cond b (Some tag) (find p tags)) (same tag) ∙ ap (cond (q tag) (Some tag)) (find-same p q same tags)
 
+-- ---- the first of those that a log tells of
+
+found_first : (verdict : Tag → Verdict) (calls : List OffsetCall) (free : Tag → Bool) → NoneBehind [] calls → ((tag : Tag) → Free calls tag ≡ free tag)
+    → first_of_calls verdict calls ≡ find (λ tag. free tag && has_ended (verdict tag)) (filter_map tag_in calls)
+found_first verdict calls free none same =
+    ap (find (λ tag. has_ended (verdict tag))) (waiting_are [] calls none)
+    ∙ find-filter (λ tag. has_ended (verdict tag)) (Free calls) (filter_map tag_in calls)
+    ∙ find-same (λ tag. Free calls tag && has_ended (verdict tag)) (λ tag. free tag && has_ended (verdict tag)) (λ tag. ap (λ (b : Bool). b && has_ended (verdict tag)) (same tag)) (filter_map tag_in calls)
+
+module _ (log : List OffsetEntry) where
+  abbrev standing : List OffsetCall
+  standing = map Stand (filter_map offset_tag log)
+
+  all_stand : ArePlain standing
+  all_stand = stands_plain (filter_map offset_tag log)
+
+  standing_tags : (test : Tag → Bool) → find test (filter_map tag_in (standing ++ flat_map marks_in log)) ≡ find test (filter_map offset_tag log)
+  standing_tags test =
+      first-append test standing (flat_map marks_in log)
+      ∙ ap (option_or (first_tag test standing)) (marks_first test log)
+      ∙ option_or-none (first_tag test standing)
+      ∙ ap (find test) (stands_first test (filter_map offset_tag log))
+
+  -- it is the first that has no marker in the log
+  pub first_unmarked_is : (verdict : Tag → Verdict) → first_unmarked verdict log ≡ find (λ tag. not (is_marked tag log) && has_ended (verdict tag)) (filter_map offset_tag log)
+  first_unmarked_is verdict =
+      found_first verdict (standing ++ flat_map marks_in log) (λ tag. not (is_marked tag log))
+      (none-append [] standing (flat_map marks_in log) (plain_none [] standing (λ tag. refl) all_stand) (marks_none standing log))
+      (λ tag. ap is_none (marker_of-plain tag standing (flat_map marks_in log) all_stand) ∙ marks_free tag log)
+      ∙ standing_tags (λ tag. not (is_marked tag log) && has_ended (verdict tag))
+
 -- ---- behind an opening, and further frames
 
 module _ (entries : List Entry) (frames more : List OffsetEntry) where
@@ -349,8 +381,6 @@ module _ (entries : List Entry) (frames more : List OffsetEntry) where
 
 pub goes_by_place : (entries : List Entry) (frames : List OffsetEntry) → GoesByPlace entries frames
 goes_by_place entries frames verdict more all =
-    let calls : List OffsetCall = replayed entries frames ++ flat_map told_in more in
-    ap (find (λ tag. has_ended (verdict tag))) (waiting_are [] calls (none_behind entries frames more all))
-    ∙ find-filter (λ tag. has_ended (verdict tag)) (Free calls) (filter_map tag_in calls)
-    ∙ find-same (λ tag. Free calls tag && has_ended (verdict tag)) (λ tag. not (is_marked tag (frames ++ more)) && has_ended (verdict tag)) (λ tag. ap (λ (b : Bool). b && has_ended (verdict tag)) (free_at entries frames more tag)) (filter_map tag_in calls)
+    found_first verdict (replayed entries frames ++ flat_map told_in more) (λ tag. not (is_marked tag (frames ++ more))) (none_behind entries frames more all) (free_at entries frames more)
     ∙ tags_first entries frames more (λ tag. not (is_marked tag (frames ++ more)) && has_ended (verdict tag))
+    ∙ sym (first_unmarked_is (frames ++ more) verdict)

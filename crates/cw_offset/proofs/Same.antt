@@ -21,11 +21,11 @@ use Rattle.cw_offset.specs.declared.body.OffsetEntry.{OffsetEntry}
 use Rattle.cw_offset.specs.declared.body.OffsetEntry.TheVariants.{Records, Mark}
 use Rattle.cw_offset.specs.declared.call.OffsetCall.{OffsetCall}
 use Rattle.cw_offset.specs.declared.call.OffsetCall.TheVariants.{Stand, Put, Commit, Abort, Set}
-use Rattle.cw_offset.specs.Log.{offset_tag, offset_records, is_marked}
+use Rattle.cw_offset.specs.Log.{offset_tag, offset_records, is_marked, marks_in}
 use Rattle.cw_offset.specs.Acceptance.{IsOffsetOf, IsAllowedOffset, IsAllowedStored, AreAllowedStored}
 use Rattle.cw_offset.specs.Offsets.{mark_in, marker_of, is_commit, said_in, said_of}
 use Rattle.cw_offset.specs.Compaction.{is_record_of, stores, sets_part, replaces_part, is_aborted, is_outdated, records_staying, offset_stays, compact_offsets}
-use Rattle.cw_offset.specs.Replay.{put_in, puts_of, calls_at, marks_in, replayed, TellTheTruth, SaysTheSame}
+use Rattle.cw_offset.specs.Replay.{put_in, puts_of, calls_at, replayed, TellTheTruth, SaysTheSame}
 use Rattle.cw_offset.proofs.Replays.{plain-append, option_or-none, said_by, said_by-same, said_by-append, ArePlain, marker_of-append, marker_of-plain, said_of-plain, stands_plain, stands_silent, puts_plain}
 use Rattle.cw_offset.proofs.Compacted.{gone, log_kept, marker_kept}
 

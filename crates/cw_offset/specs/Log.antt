@@ -1,14 +1,16 @@
 -- The offset log as the list of its frames: records of offsets under the transaction that stored them (KIP-618), and
 -- markers of how transactions ended (KIP-98, control records).
-use Rattle.std.specs.Prelude.{◌&&◌, Bool, not, List, [], Option, Some, None}
-use Rattle.std.specs.List.{find, filter_map, list_any}
+use Rattle.std.specs.Prelude.{◌++◌, Bool, List, [], ◌∷◌, map, Option, Some, None, if◌then◌else◌}
+use Rattle.std.specs.List.{filter_map, flat_map, list_any}
 use Rattle.cw_types.specs.declared.ids.Tag.{Tag}
 use Rattle.cw_types.specs.declared.verdict.Verdict.{Verdict}
 use Rattle.cw_types.specs.Same.{same_tag}
-use Rattle.cw_types.specs.Verdict.{has_ended}
 use Rattle.cw_bytes.specs.declared.applied.Applied.{Applied}
 use Rattle.cw_offset.specs.declared.body.OffsetEntry.{OffsetEntry}
 use Rattle.cw_offset.specs.declared.body.OffsetEntry.TheVariants.{Records, Mark}
+use Rattle.cw_offset.specs.declared.call.OffsetCall.{OffsetCall}
+use Rattle.cw_offset.specs.declared.call.OffsetCall.TheVariants.{Stand, Commit, Abort}
+use Rattle.cw_offset.specs.Offsets as calls
 
 -- the records of an entry
 abbrev pub offset_records : OffsetEntry → List Applied
@@ -33,7 +35,13 @@ has_records tag log = list_any (same_tag tag) (filter_map offset_tag log)
 abbrev pub is_marked : Tag → List OffsetEntry → Bool
 is_marked tag log = list_any (same_tag tag) (filter_map offset_mark log)
 
--- the first transaction, by its place in the log as it stands, that has ended and has no marker there
+-- the call of a marker
+abbrev pub marks_in : OffsetEntry → List OffsetCall
+marks_in (Records tag records) = []
+marks_in (Mark mark) = (if mark.committed then Commit mark.tag else Abort mark.tag) ∷ []
+
+-- the first transaction, by its place in the log as it stands, that has ended and waits for its marker: that of the
+-- calls that tell which transactions stand there, in the log's order, and which of them are marked
 abbrev pub first_unmarked : (Tag → Verdict) → List OffsetEntry → Option Tag
 first_unmarked verdict log =
-    find (λ tag. not (is_marked tag log) && has_ended (verdict tag)) (filter_map offset_tag log)
+    calls.first_unmarked verdict (map Stand (filter_map offset_tag log) ++ flat_map marks_in log)

@@ -17,8 +17,8 @@ use Rattle.cw_txn.specs.Legal.{is_committed, verdict_of}
 use Rattle.cw_offset.specs.declared.body.OffsetEntry.{OffsetEntry}
 use Rattle.cw_offset.specs.declared.body.OffsetEntry.TheVariants.{Records, Mark}
 use Rattle.cw_offset.specs.declared.call.OffsetCall.{OffsetCall}
-use Rattle.cw_offset.specs.declared.call.OffsetCall.TheVariants.{Stand, Put, Commit, Abort, Set}
-use Rattle.cw_offset.specs.Log.{offset_tag, is_marked, first_unmarked}
+use Rattle.cw_offset.specs.declared.call.OffsetCall.TheVariants.{Stand, Put, Set}
+use Rattle.cw_offset.specs.Log.{offset_tag, is_marked, marks_in, first_unmarked}
 use Rattle.cw_offset.specs.Offsets.{marker_of, is_commit, committed}
 use Rattle.cw_offset.specs.Offsets as calls
 use Rattle.cw_offset.specs.Compaction.{is_aborted}
@@ -42,11 +42,6 @@ abbrev pub calls_at : List OffsetEntry → Entry → List OffsetCall
 calls_at log (entry.Bump tid) = []
 calls_at log (entry.Commit tag generation spans) = puts_of (same_tag tag) log
 calls_at log (entry.Set tid epoch list) = map (λ set. Set set.part set.to) list
-
--- the call of a marker
-abbrev pub marks_in : OffsetEntry → List OffsetCall
-marks_in (Records tag records) = []
-marks_in (Mark mark) = (if mark.committed then Commit mark.tag else Abort mark.tag) ∷ []
 
 -- the calls of an opening: which transactions stand in the log, in its order, then the calls of the transaction list,
 -- then the puts of transactions without a commit, and the markers
