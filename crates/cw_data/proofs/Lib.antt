@@ -4,6 +4,8 @@ pub mod Waiting
 pub mod Chains
 pub mod Takes
 pub mod RowLemmas
+pub mod Waits
+pub mod Firsts
 pub mod Places
 pub mod Looks
 pub mod Settled

@@ -2,7 +2,8 @@
 use Rattle.std.proofs.Common.{◌≡◌, ℕ, zero, suc, ◌+◌, ◌<◌, ◌≤◌, Bool, true, false, ◌&&◌, cond, List, [], ◌∷◌, ◌++◌, length, take, map, Option, None, Some, is_some, refl, ap, ◌∙◌, arith}
 use Rattle.std.specs.Prelude.{slice_get}
 use Rattle.std.specs.Option.{option_map, option_or}
-use Rattle.std.specs.List.{filter, find, prefix_len, enumerate_from, AllByRecursion}
+use Rattle.std.specs.List.{filter, find, count_by, prefix_len, enumerate_from, AllByRecursion}
+use Rattle.std.proofs.lemmas.List.Sums.{sum_by-append}
 
 pub slice_get-left : {A : Type 0} (xs ys : List A) (i : ℕ) → i < length xs → slice_get (xs ++ ys) i ≡ slice_get xs i
 slice_get-left [] ys i within = absurd (omega (arith, within))
@@ -91,3 +92,11 @@ kept q x false rest o e = e
 pub find-filter : {A : Type 0} (p q : A → Bool) (xs : List A) → find q (filter p xs) ≡ find (λ x. p x && q x) xs
 find-filter p q [] = refl
 find-filter p q (x ∷ xs) = kept q x (p x) (filter p xs) (find (λ y. p y && q y) xs) (find-filter p q xs)
+
+-- how many pass a test beside one of them
+pub count-split : {A : Type 0} (p : A → Bool) (front : List A) (entry : A) (back : List A) → count_by p (front ++ entry ∷ back) ≡ count_by p (front ++ back) + cond (p entry) 1 0
+count-split {A = A} p front entry back =
+    let one = sum_by-append (λ (e : A). cond (p e) 1 0) front (entry ∷ back) in
+    let two = sum_by-append (λ (e : A). cond (p e) 1 0) front back in
+    let three = sum_by-append (λ (e : A). cond (p e) 1 0) (entry ∷ []) back in
+    omega (arith, one, two, three)

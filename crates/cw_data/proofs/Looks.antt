@@ -1,22 +1,17 @@
 -- What the look-ups say of the whole list.
-use Rattle.std.proofs.Common.{◌≡◌, ℕ, zero, suc, ◌+◌, ◌-◌, max, Bool, true, false, not, ◌&&◌, cond, List, [], ◌∷◌, ◌++◌, length, take, drop, Option, None, Some, is_some, is_none, refl, sym, ap, subst, ◌∙◌, arith, append_assoc}
+use Rattle.std.proofs.Common.{◌≡◌, ℕ, zero, suc, ◌+◌, ◌-◌, max, Bool, not, List, [], ◌∷◌, length, take, drop, Option, None, Some, is_some, is_none, refl, sym, ap, subst, ◌∙◌, arith}
 use Rattle.std.specs.Prelude.{slice_get, nat_lt, nat_le}
-use Rattle.std.specs.Option.{option_map, option_or}
-use Rattle.std.specs.List.{filter, filter_map, cons_option, find, flat_map, prefix_len, enumerate_from}
+use Rattle.std.specs.Option.{option_map}
+use Rattle.std.specs.List.{filter, find, flat_map, prefix_len, enumerate_from}
 use Rattle.std.specs.List.Sorted.{IsPartitionedBy}
-use Rattle.std.proofs.lemmas.List.{length_push}
 use Rattle.cw_types.specs.declared.ids.Tag.{Tag}
-use Rattle.cw_types.specs.declared.verdict.Verdict.{Verdict}
 use Rattle.cw_data.specs.declared.entry.Batch.{Batch}
 use Rattle.cw_data.specs.declared.entry.DataEntry.{DataEntry}
-use Rattle.cw_data.specs.declared.entry.DataEntry.TheVariants.{Batch as InBatch, Mark}
 use Rattle.cw_data.specs.declared.topic.Row.{Row}
 use Rattle.cw_data.specs.declared.topic.Topic.{Topic}
-use Rattle.cw_types.specs.Verdict.{has_ended}
-use Rattle.cw_data.specs.Log.{Record, records, marker_of, stable, taken, is_commit, tag_in}
-use Rattle.cw_data.specs.Rows.{Marks, values_in, batch_at, batch_in, commits, rows_of, IsTopic, first_or}
-use Rattle.cw_data.specs.Tables.{place_in, places_from, ended_of, first_ended}
-use Rattle.cw_data.proofs.Lists.{slice_get-map, slice_get-here}
+use Rattle.cw_data.specs.Log.{Record, records, marker_of, stable, taken, is_commit}
+use Rattle.cw_data.specs.Rows.{Marks, values_in, batch_at, commits, rows_of, IsTopic, first_or}
+use Rattle.cw_data.proofs.Lists.{slice_get-map}
 use Rattle.cw_data.proofs.Chains.{records_in_batch, held, Chain, rows_chain, rows_joined, front_ends, front_is}
 use Rattle.cw_data.proofs.Takes.{in_row, wanted, found_in, ascends_from_chain, ascends_taken, ascends_filtered, partitioned}
 
@@ -84,31 +79,3 @@ module _ (marks : Marks) (entries : List DataEntry) (same : (tag : Tag) → mark
       (partitioned from 0 (filter (commits marks entries) (take topic.passed (rows_of name entries)))
       (ascends_filtered (commits marks entries) 0 (take topic.passed (rows_of name entries))
       (ascends_taken topic.passed 0 (rows_of name entries) (ascends_from_chain entries 0 (rows_of name entries) chain))))
-
--- the places without marker, one after the other
-module _ (verdict : Tag → Verdict) (marks : Marks) (all : List DataEntry) (same : (tag : Tag) → marks tag ≡ marker_of tag all) where
-  abbrev test : Tag → Bool
-  test tag = is_none (marker_of tag all) && has_ended (verdict tag)
-
-  either : (place : ℕ) (tag : Tag) (batch : Option Batch) (a b : Bool) (places : List ℕ) (rest : Option Tag) → first_ended verdict all places ≡ rest → ended_of verdict (batch_at all place) ≡ cond b (Some tag) None
-      → first_ended verdict all (cond a (place ∷ []) [] ++ places) ≡ cond (a && b) (Some tag) rest
-  either place tag batch true true places rest is this = ap (λ o. option_or o (first_ended verdict all places)) this
-  either place tag batch true false places rest is this = ap (λ o. option_or o (first_ended verdict all places)) this ∙ is
-  either place tag batch false b places rest is this = is
-
-  one : (place : ℕ) (entry : DataEntry) (places : List ℕ) (tags : List Tag) → slice_get all place ≡ Some entry → first_ended verdict all places ≡ find test tags
-      → first_ended verdict all (place_in marks place entry ++ places) ≡ find test (cons_option (tag_in entry) tags)
-  one place (InBatch batch) places tags there is =
-      either place batch.tag (Some batch) (is_none (marks batch.tag)) (has_ended (verdict batch.tag)) places (find test tags) is (ap (λ o. ended_of verdict (batch_in o)) there)
-      ∙ ap (λ o. cond (is_none o && has_ended (verdict batch.tag)) (Some batch.tag) (find test tags)) (same batch.tag)
-  one place (Mark tag committed) places tags there is = is
-
--- of the whole log
-pub first_ended_is : (verdict : Tag → Verdict) (marks : Marks) (front es : List DataEntry) → ((tag : Tag) → marks tag ≡ marker_of tag (front ++ es)) → first_ended verdict (front ++ es) (places_from marks (length front) es)
-    ≡ find (λ tag. is_none (marker_of tag (front ++ es)) && has_ended (verdict tag)) (filter_map tag_in es)
-first_ended_is verdict marks front [] same = refl
-first_ended_is verdict marks front (e ∷ es) same =
-    one verdict marks (front ++ e ∷ es) same (length front) e (places_from marks (length front + 1) es) (filter_map tag_in es) (slice_get-here front e es)
-    (subst (λ n. first_ended verdict (front ++ e ∷ es) (places_from marks n es) ≡ find (λ tag. is_none (marker_of tag (front ++ e ∷ es)) && has_ended (verdict tag)) (filter_map tag_in es)) (length_push front e)
-    (subst (λ (l : List DataEntry). first_ended verdict l (places_from marks (length (front ++ e ∷ [])) es) ≡ find (λ tag. is_none (marker_of tag l) && has_ended (verdict tag)) (filter_map tag_in es)) (append_assoc front (e ∷ []) es)
-    (first_ended_is verdict marks (front ++ e ∷ []) es (λ tag. same tag ∙ sym (ap (marker_of tag) (append_assoc front (e ∷ []) es))))))

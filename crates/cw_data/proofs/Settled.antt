@@ -1,5 +1,5 @@
 -- The data log's invariant behind its steps.
-use Rattle.std.proofs.Common.{◌≡◌, ℕ, ◌+◌, ◌≤◌, List, [], ◌∷◌, ◌++◌, length, take, drop, slice_index_or, Option, None, Some, sym, ap, subst, ◌∙◌, arith, length-append}
+use Rattle.std.proofs.Common.{◌≡◌, ℕ, ◌+◌, ◌≤◌, List, [], ◌∷◌, ◌++◌, length, take, drop, slice_index_or, Option, None, Some, sym, ap, subst, ◌∙◌, arith}
 use Rattle.std.specs.BTreeMap.{get}
 use Rattle.std.specs.List.{count_by}
 use Rattle.std.proofs.lemmas.List.{get_or_default}
@@ -10,7 +10,8 @@ use Rattle.cw_data.specs.declared.topic.Topic.{Topic}
 use Rattle.cw_data.specs.declared.tables.Tables.{Tables}
 use Rattle.cw_data.specs.DataLog.{WithoutFirst}
 use Rattle.cw_data.specs.Tables.{name_order, is_batch_of, RoomAt, Keeps, HasRoom, IsFirstAt, IsDataLog}
-use Rattle.cw_data.proofs.Places.{count-split}
+use Rattle.cw_data.proofs.Lists.{count-split}
+use Rattle.cw_data.proofs.Waits.{places_alone}
 
 room_less : (n m : ℕ) (o : Option Topic) → n ≤ m → RoomAt m o → RoomAt n o
 room_less n m None less room = tt
@@ -20,7 +21,7 @@ room_less n m (Some topic) less room = omega (arith, less, room)
 pub alone : (tables : Tables) (front : List DataEntry) (entry : DataEntry) (back : List DataEntry) → HasRoom tables (front ++ entry ∷ back) → HasRoom tables (entry ∷ [])
 alone tables front entry back was = record {
   rows = λ e there. was.rows e (Contains-append_right front (entry ∷ back) e (Contains-append_left (entry ∷ []) back e there));
-  unmarked = omega (arith, was.unmarked, length-append front (entry ∷ back));
+  unmarked = places_alone tables.unmarked front entry back was.unmarked;
   topics = λ name.
       let less : count_by (is_batch_of name) (entry ∷ []) ≤ count_by (is_batch_of name) (front ++ entry ∷ back) = omega (arith, count-split (is_batch_of name) front entry back, count-split (is_batch_of name) [] entry []) in
       room_less (count_by (is_batch_of name) (entry ∷ [])) (count_by (is_batch_of name) (front ++ entry ∷ back)) (get name_order tables.topics name) less (was.topics name);

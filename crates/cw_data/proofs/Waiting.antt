@@ -15,7 +15,7 @@ use Rattle.cw_data.specs.declared.topic.Row.{Row}
 use Rattle.cw_data.specs.declared.topic.Topic.{Topic}
 use Rattle.cw_data.specs.Log.{Record, records_of, records_in, records, is_commit}
 use Rattle.cw_data.specs.Rows.{Marks, batch_in, batch_at, mark_of_batch, mark_at, commits, is_marked, rows_in, rows_from, rows_of, BeginsUnmarked, Waits, IsTopic, WaitsAt, TopicAt}
-use Rattle.cw_data.specs.Tables.{is_of_both, NextAt}
+use Rattle.cw_data.specs.Tables.{is_in_topic, NextAt}
 use Rattle.cw_data.proofs.Lists.{slice_get-left, each_taken, each_both, each_one, filter_alike}
 
 rows_at : (place at first end count : ℕ) → place ≡ at → first ≡ end → rows_in place first count ≡ rows_in at end count
@@ -258,16 +258,16 @@ waits_stay marks now stay entries entry name None none was = records_stay name e
 waits_stay marks now stay entries entry name (Some topic) none was = waits_on marks now stay entries entry name topic none was
 
 -- one step of passing what a marker settles
-module _ (marks : Marks) (entries : List DataEntry) (tag : Tag) (name : List ℕ) where
-  pub next_from_topic : (places : List ℕ) (o : Option Topic) → TopicAt marks entries name o → NextAt marks entries tag name places o
+module _ (marks : Marks) (entries : List DataEntry) (name : List ℕ) where
+  pub next_from_topic : (places : List ℕ) (o : Option Topic) → TopicAt marks entries name o → NextAt marks entries name places o
   next_from_topic places None was = tt
   next_from_topic places (Some topic) was = λ none. was.next
 
-  pub next_on : (place : ℕ) (places : List ℕ) (o : Option Topic) → is_of_both tag name (batch_at entries place) ≡ false → NextAt marks entries tag name (place ∷ places) o → NextAt marks entries tag name places o
+  pub next_on : (place : ℕ) (places : List ℕ) (o : Option Topic) → is_in_topic name (batch_at entries place) ≡ false → NextAt marks entries name (place ∷ places) o → NextAt marks entries name places o
   next_on place places None other was = tt
-  next_on place places (Some topic) other was = λ none. was (ap (λ b. b || list_any (λ p. is_of_both tag name (batch_at entries p)) places) other ∙ none)
+  next_on place places (Some topic) other was = λ none. was (ap (λ b. b || list_any (λ p. is_in_topic name (batch_at entries p)) places) other ∙ none)
 
-  pub topic_from : (o : Option Topic) → WaitsAt marks entries name o → NextAt marks entries tag name [] o → TopicAt marks entries name o
+  pub topic_from : (o : Option Topic) → WaitsAt marks entries name o → NextAt marks entries name [] o → TopicAt marks entries name o
   topic_from None waits next = waits
   topic_from (Some topic) waits next = record { waits = waits; next = next refl }
 

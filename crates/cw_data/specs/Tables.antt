@@ -1,5 +1,5 @@
 -- What the tables keep of the log, so that no look-up walks it. Internal: no public contract cites this.
-use Rattle.std.specs.Prelude.{◌≡◌, ℕ, ◌+◌, ◌≤◌, Bool, false, List, [], ◌∷◌, ◌++◌, length, Contains, Option, None, Some, is_none, IsSome, unwrap_or, slice_index_or, take, drop, ◌<◌, ◌^◌, if◌then◌else◌, vec_capacity}
+use Rattle.std.specs.Prelude.{◌≡◌, ℕ, ◌+◌, ◌≤◌, Bool, false, List, length, Contains, Option, None, Some, IsSome, unwrap_or, slice_index_or, take, drop, ◌<◌, ◌^◌, if◌then◌else◌, vec_capacity}
 use Rattle.std.specs.Bool.{⊤}
 use Rattle.std.specs.Option.{option_or}
 use Rattle.std.specs.List.{count_by, list_any}
@@ -9,7 +9,6 @@ use Rattle.std.specs.Ordering.{nat_cmp}
 use Rattle.std.specs.Cmp.Lexicographic.{slice_cmp}
 use Rattle.std.specs.declared.cmp.Ordering.{Ordering}
 use Rattle.cw_types.specs.declared.ids.Tag.{Tag}
-use Rattle.cw_types.specs.declared.verdict.Verdict.{Verdict}
 use Rattle.cw_data.specs.declared.entry.Batch.{Batch}
 use Rattle.cw_data.specs.declared.entry.DataEntry.{DataEntry}
 use Rattle.cw_data.specs.declared.entry.DataEntry.TheVariants.{Batch as InBatch, Mark}
@@ -18,9 +17,9 @@ use Rattle.cw_data.specs.declared.entry.EntryRef.TheVariants.{Batch as BatchRef,
 use Rattle.cw_data.specs.declared.topic.Topic.{Topic}
 use Rattle.cw_data.specs.declared.tables.Tables.{Tables}
 use Rattle.cw_types.specs.Same.{same_tag, tag_order}
-use Rattle.cw_types.specs.Verdict.{has_ended}
 use Rattle.cw_data.specs.Log.{marker_of, records}
 use Rattle.cw_data.specs.Rows.{Marks, batch_at, rows_of, BeginsUnmarked, TopicAt}
+use Rattle.cw_data.specs.Unmarked.{KeepsPlaces, HasPlaces}
 
 -- the entry that is borrowed in parts
 abbrev pub entry_of : EntryRef → DataEntry
@@ -35,57 +34,22 @@ name_order = slice_cmp nat_cmp
 abbrev pub marks_in : BTreeMap Tag (Option Bool) → Marks
 marks_in marks tag = unwrap_or (get tag_order marks tag) None
 
--- the place of an entry, if it is a batch without marker
-abbrev pub place_in : Marks → ℕ → DataEntry → List ℕ
-place_in marks place (InBatch batch) = if is_none (marks batch.tag) then place ∷ [] else []
-place_in marks place (Mark tag committed) = []
-
--- the places of the batches without marker, the first of these entries standing at a place
-abbrev pub places_from : Marks → ℕ → List DataEntry → List ℕ
-places_from marks place [] = []
-places_from marks place (entry ∷ entries) = place_in marks place entry ++ places_from marks (place + 1) entries
-
--- the transaction of a batch, if it has ended
-abbrev pub ended_of : (Tag → Verdict) → Option Batch → Option Tag
-ended_of verdict None = None
-ended_of verdict (Some batch) = if has_ended (verdict batch.tag) then Some batch.tag else None
-
--- the first transaction that has ended of the batches at these places
-abbrev pub first_ended : (Tag → Verdict) → List DataEntry → List ℕ → Option Tag
-first_ended verdict entries [] = None
-first_ended verdict entries (place ∷ places) =
-    option_or (ended_of verdict (batch_at entries place)) (first_ended verdict entries places)
-
 -- the tables are those of the entries
 pub record Keeps (tables : Tables) (entries : List DataEntry) : Type 0 where
   pub marks : (tag : Tag) → marks_in tables.marks tag ≡ marker_of tag entries
-  pub unmarked : tables.unmarked.items ≡ places_from (marks_in tables.marks) 0 entries
+  pub unmarked : KeepsPlaces (marks_in tables.marks) entries tables.unmarked
   pub topics : (name : List ℕ) → TopicAt (marks_in tables.marks) entries name (get name_order tables.topics name)
 
--- whether a batch is of a transaction
-abbrev pub is_of_tag : Tag → Option Batch → Bool
-is_of_tag tag None = false
-is_of_tag tag (Some batch) = same_tag tag batch.tag
+-- whether a batch is of a topic
+abbrev pub is_in_topic : List ℕ → Option Batch → Bool
+is_in_topic name None = false
+is_in_topic name (Some batch) = bytes_eq name batch.topic
 
--- the topic of a batch of a transaction
-abbrev pub topic_with : Tag → Option Batch → Option (List ℕ)
-topic_with tag None = None
-topic_with tag (Some batch) = if same_tag tag batch.tag then Some batch.topic else None
-
-abbrev pub is_named : List ℕ → Option (List ℕ) → Bool
-is_named name None = false
-is_named name (Some other) = bytes_eq name other
-
--- whether a batch is of a transaction and a topic
-abbrev pub is_of_both : Tag → List ℕ → Option Batch → Bool
-is_of_both tag name batch = is_named name (topic_with tag batch)
-
--- a topic whose passed rows are all up to the first one without marker, unless one of these places is a batch of the
--- transaction in that topic
-abbrev pub NextAt : Marks → List DataEntry → Tag → List ℕ → List ℕ → Option Topic → Type 0
-NextAt marks entries tag name places None = ⊤
-NextAt marks entries tag name places (Some topic) =
-    list_any (λ place. is_of_both tag name (batch_at entries place)) places ≡ false →
+-- a topic whose passed rows are all up to the first one without marker, unless one of these places is a batch of it
+abbrev pub NextAt : Marks → List DataEntry → List ℕ → List ℕ → Option Topic → Type 0
+NextAt marks entries name places None = ⊤
+NextAt marks entries name places (Some topic) =
+    list_any (λ place. is_in_topic name (batch_at entries place)) places ≡ false →
     BeginsUnmarked marks entries (drop topic.passed (rows_of name entries))
 
 -- how transactions are marked behind a marker of one of them
@@ -115,7 +79,7 @@ RoomAt more (Some topic) = length topic.rows.items + more ≤ vec_capacity topic
 -- rows and room for these entries
 pub record HasRoom (tables : Tables) (reserved : List DataEntry) : Type 0 where
   pub rows : (entry : DataEntry) → Contains reserved entry → HasRows tables entry
-  pub unmarked : length tables.unmarked.items + length reserved ≤ vec_capacity tables.unmarked
+  pub unmarked : HasPlaces tables.unmarked reserved
   pub topics : (name : List ℕ) → RoomAt (count_by (is_batch_of name) reserved) (get name_order tables.topics name)
 
 -- the first place of an entry in a list

@@ -12,6 +12,7 @@ mod tables;
 #[cfg(test)]
 mod tests;
 mod topic;
+mod unmarked;
 
 pub use body::{read_data, write_data};
 pub use entry::{Batch, DataEntry};

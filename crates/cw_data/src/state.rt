@@ -4,10 +4,11 @@ ghost use Rattle.std.specs.Option.{option_map};
 ghost use Rattle.cw_data.specs.declared.entry.DataEntry.{DataEntry};
 ghost use Rattle.cw_data.specs.Log.{records, stable, taken, first_unmarked};
 
-use crate::entry::{Batch, DataEntry, EntryRef, batch_at, value_at};
+use crate::entry::{Batch, DataEntry, EntryRef, value_at};
 use crate::tables::Tables;
 use crate::topic::push_made;
-use cw_types::{Decided, Name, Tag, Verdict};
+use crate::unmarked::first_ended;
+use cw_types::{Decided, Name, Tag};
 use std::alloc::{AllocError, Global};
 use std::marker::Model;
 
@@ -92,7 +93,7 @@ impl DataState {
     pub fn first_unmarked<T: Decided>(&self, txn: &T) -> Option<&Tag>
         ensures { option_copied result ≡ first_unmarked (T.verdict_of txn.now) self.now.entries }
     {
-        first_ended(&self.entries, &self.tables.unmarked, txn)
+        first_ended(&self.tables.unmarked.order, &self.entries, txn)
     }
 
     /// Makes room for a batch, so that adding it once can't want memory.
@@ -206,48 +207,7 @@ impl DataState {
     }
 }
 
-ghost use Rattle.cw_types.specs.Verdict.{has_ended};
-ghost use Rattle.cw_data.specs.Rows.{batch_at};
-ghost use Rattle.cw_data.specs.Tables.{entry_of, IsFirstAt, Keeps, HasRoom, FitsBehind, ended_of, first_ended};
-
-// The first of the batches at these places whose transaction has ended.
-fn first_ended<'a, T: Decided>(
-    entries: &'a [DataEntry],
-    places: &[usize],
-    txn: &T,
-) -> Option<&'a Tag>
-    ensures { option_copied result ≡ first_ended (T.verdict_of txn.now) entries.now places.now }
-{
-    for place in places {
-        match ended_at(entries, *place, txn) {
-            Some(tag) => return Some(tag),
-            None => {}
-        }
-    }
-    None
-}
-
-// The transaction of the batch at a place, if it has ended.
-fn ended_at<'a, T: Decided>(entries: &'a [DataEntry], place: usize, txn: &T) -> Option<&'a Tag>
-    ensures { option_copied result ≡ ended_of (T.verdict_of txn.now) (batch_at entries.now place) }
-{
-    let batch = batch_at(entries, place)?;
-    if has_ended(txn, &batch.tag) {
-        Some(&batch.tag)
-    } else {
-        None
-    }
-}
-
-fn has_ended<T: Decided>(txn: &T, tag: &Tag) -> bool
-    ensures { result ≡ has_ended (T.verdict_of txn.now tag.now) }
-{
-    match txn.verdict(tag) {
-        Verdict::Committed => true,
-        Verdict::Aborted => true,
-        Verdict::Open => false,
-    }
-}
+ghost use Rattle.cw_data.specs.Tables.{entry_of, IsFirstAt, Keeps, HasRoom, FitsBehind};
 
 // The first place of an entry in a list.
 fn place_of(entries: &[DataEntry], entry: &EntryRef<'_>) -> Option<usize>

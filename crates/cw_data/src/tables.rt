@@ -1,6 +1,6 @@
 //! What the log keeps of its entries, so that no look-up walks them.
-ghost use Rattle.std.specs.Prelude.{◌≡◌, ◌≤◌, ◌<◌, ◌+◌, ◌^◌, ◌++◌, ◌∷◌, [], ℕ, true, false, not, List, length, take, drop, OnOk, IsSome, Some, None, option_copied, vec_len, vec_capacity, is_none, if◌then◌else◌};
-ghost use Rattle.std.specs.List.{filter, count_by};
+ghost use Rattle.std.specs.Prelude.{◌≡◌, ◌≤◌, ◌<◌, ◌+◌, ◌^◌, ◌++◌, ◌∷◌, [], ℕ, true, false, List, length, take, drop, OnOk, IsSome, Some, option_copied, if◌then◌else◌};
+ghost use Rattle.std.specs.List.{count_by};
 ghost use Rattle.std.specs.Str.{bytes_eq};
 ghost use Rattle.std.specs.BTreeMap.{get};
 ghost use Rattle.cw_types.specs.declared.ids.Tag.{Tag};
@@ -8,20 +8,22 @@ ghost use Rattle.cw_data.specs.declared.entry.DataEntry.{DataEntry};
 ghost use Rattle.cw_data.specs.declared.topic.Topic.{Topic};
 ghost use Rattle.cw_types.specs.Same.{same_tag, tag_order};
 ghost use Rattle.cw_data.specs.Rows.{Marks, batch_at, WaitsAt, TopicAt, EndsWith};
-ghost use Rattle.cw_data.specs.Tables.{marks_in, name_order, is_of_tag, is_of_both, topic_with, is_batch_of, NextAt, RoomAt, after_mark, Keeps, HasRows, HasRoom, FitsBehind, entry_of};
+ghost use Rattle.cw_data.specs.Tables.{marks_in, name_order, is_in_topic, is_batch_of, NextAt, RoomAt, after_mark, Keeps, HasRows, HasRoom, FitsBehind, entry_of};
+ghost use Rattle.cw_data.specs.Unmarked.{is_batch_with, HasRoomFor, Roomier};
 
 use crate::entry::{Batch, DataEntry, EntryRef, batch_at};
-use crate::topic::{Topic, marker, push_made};
+use crate::topic::{Topic, marker};
+use crate::unmarked::Unmarked;
 use cw_tables::{has_row, make_row};
 use cw_types::{Name, Tag};
 use std::alloc::{AllocError, Global};
 use std::collections::BTreeMap;
 
-/// How each transaction is marked, the places of the batches without marker, and each topic.
+/// How each transaction is marked, the batches without marker, and each topic.
 #[derive(Drop)]
 pub struct Tables {
     pub marks: BTreeMap<Tag, Option<bool>>,
-    pub unmarked: Vec<usize>,
+    pub unmarked: Unmarked,
     pub topics: BTreeMap<Name, Topic>,
 }
 
@@ -33,7 +35,7 @@ impl Tables {
     {
         Tables {
             marks: BTreeMap::new(alloc),
-            unmarked: Vec::new(alloc),
+            unmarked: Unmarked::new(alloc),
             topics: BTreeMap::new(alloc),
         }
     }
@@ -57,14 +59,41 @@ impl Tables {
         ensures has { HasRoom self.new reserved.now }
         ensures more { OnOk result (HasRoom self.new (reserved.now ++ entry_of entry.now ∷ [])) }
     {
-        self.unmarked.reserve(reserved.len() + 1)?;
+        self.unmarked.make_row(reserved.len())?;
         match entry {
-            EntryRef::Batch(batch) => {
-                let more = batches_of(reserved, &batch.topic) + 1;
-                make_topic(&mut self.topics, alloc, &batch.topic, more)
-            }
+            EntryRef::Batch(batch) => self.make_batch(alloc, reserved, batch),
             EntryRef::Mark { tag, .. } => make_tag(&mut self.marks, tag),
         }
+    }
+
+    // Room for a batch in its transaction and its topic.
+    fn make_batch(
+        &mut self,
+        alloc: Global,
+        reserved: &[DataEntry],
+        batch: &Batch,
+    ) -> Result<(), AllocError>
+        ensures roomier { Roomier self.old.unmarked self.new.unmarked }
+        ensures order { self.new.unmarked.order ≡ self.old.unmarked.order }
+        ensures marks { self.new.marks ≡ self.old.marks }
+        ensures kept { (marks : Marks) (entries : List DataEntry) (q : List ℕ) →
+            TopicAt marks entries q (get name_order self.old.topics q) →
+            TopicAt marks entries q (get name_order self.new.topics q) }
+        ensures topics { (q : List ℕ) →
+            RoomAt (count_by (is_batch_of q) reserved.now) (get name_order self.old.topics q) →
+            RoomAt (count_by (is_batch_of q) reserved.now) (get name_order self.new.topics q) }
+        ensures rows { (q : List ℕ) → IsSome (get name_order self.old.topics q) →
+            IsSome (get name_order self.new.topics q) }
+        ensures there { OnOk result (IsSome (get name_order self.new.topics batch.now.topic)) }
+        ensures room { OnOk result (HasRoomFor (count_by (is_batch_with batch.now.tag) reserved.now + 1)
+            (get tag_order self.new.unmarked.places batch.now.tag)) }
+        ensures more { OnOk result (RoomAt (count_by (is_batch_of batch.now.topic) reserved.now + 1)
+            (get name_order self.new.topics batch.now.topic)) }
+    {
+        let more = batches_with(reserved, &batch.tag) + 1;
+        self.unmarked.make_room(alloc, &batch.tag, more)?;
+        let more = batches_of(reserved, &batch.topic) + 1;
+        make_topic(&mut self.topics, alloc, &batch.topic, more)
     }
 
     /// The entry with which the log ends.
@@ -93,8 +122,8 @@ impl Tables {
         ensures has { (front back : List DataEntry) → HasRoom self.old (front ++ DataEntry.Batch batch.now ∷ back) →
             HasRoom self.new (front ++ back) }
     {
-        let is_unmarked = marker(&self.marks, &batch.tag).is_none();
-        push_if(&mut self.unmarked, is_unmarked, place);
+        let waits = marker(&self.marks, &batch.tag).is_none();
+        self.unmarked.add_batch(batch, waits);
         add_to(&mut self.topics, &self.marks, entries, place, batch);
     }
 
@@ -111,10 +140,9 @@ impl Tables {
             &mut self.topics,
             &self.marks,
             entries,
-            self.unmarked.as_slice(),
-            tag,
+            self.unmarked.places_of(tag),
         );
-        remove_marked(&mut self.unmarked, entries, tag);
+        self.unmarked.add_mark(tag);
     }
 }
 
@@ -133,6 +161,25 @@ fn is_batch_of(entry: &DataEntry, name: &Name) -> bool
 {
     match entry {
         DataEntry::Batch(batch) => same_names(name, &batch.topic),
+        DataEntry::Mark { .. } => false,
+    }
+}
+
+// How many of these entries are batches of a transaction.
+fn batches_with(entries: &[DataEntry], tag: &Tag) -> usize
+    ensures { result ≡ count_by (is_batch_with tag.now) entries.now }
+{
+    entries
+        .iter()
+        .filter(|entry| is_batch_with(entry, tag))
+        .count()
+}
+
+fn is_batch_with(entry: &DataEntry, tag: &Tag) -> bool
+    ensures { result ≡ is_batch_with tag.now entry.now }
+{
+    match entry {
+        DataEntry::Batch(batch) => same_tags(tag, &batch.tag),
         DataEntry::Mark { .. } => false,
     }
 }
@@ -204,16 +251,6 @@ fn make_tag(marks: &mut BTreeMap<Tag, Option<bool>>, tag: &Tag) -> Result<(), Al
     make_row(marks, tag.copy()?, None)
 }
 
-fn push_if(places: &mut Vec<usize>, wanted: bool, place: usize)
-    requires { vec_len places.old < vec_capacity places.old }
-    ensures pushed { places.new.items ≡ places.old.items ++ (if wanted then place ∷ [] else []) }
-    ensures room { vec_capacity places.old ≤ vec_capacity places.new }
-{
-    if wanted {
-        push_made(places, place);
-    }
-}
-
 // The batch with which the log ends, in its topic.
 fn add_to(
     topics: &mut BTreeMap<Name, Topic>,
@@ -263,24 +300,23 @@ fn set_marker(marks: &mut BTreeMap<Tag, Option<bool>>, tag: &Tag, committed: boo
     }
 }
 
-// Passes what a transaction's marker settles, in the topics of its batches.
+// Passes what a transaction's marker settles, in the topics of its batches at these places.
 fn advance_all(
     topics: &mut BTreeMap<Name, Topic>,
     marks: &BTreeMap<Tag, Option<bool>>,
     entries: &[DataEntry],
-    unmarked: &[usize],
-    tag: &Tag,
+    places: &[usize],
 )
     requires waits { (name : List ℕ) → WaitsAt (marks_in marks.now) entries.now name (get name_order topics.old name) }
     requires next { (name : List ℕ) →
-        NextAt (marks_in marks.now) entries.now tag.now name unmarked.now (get name_order topics.old name) }
+        NextAt (marks_in marks.now) entries.now name places.now (get name_order topics.old name) }
     ensures topics { (name : List ℕ) → TopicAt (marks_in marks.now) entries.now name (get name_order topics.new name) }
     ensures rows { (name : List ℕ) → IsSome (get name_order topics.old name) → IsSome (get name_order topics.new name) }
     ensures room { (n : ℕ) (name : List ℕ) → RoomAt n (get name_order topics.old name) →
         RoomAt n (get name_order topics.new name) }
 {
-    for place in unmarked {
-        advance_at(topics, marks, entries, *place, tag);
+    for place in places {
+        advance_at(topics, marks, entries, *place);
     }
 }
 
@@ -290,32 +326,19 @@ fn advance_at(
     marks: &BTreeMap<Tag, Option<bool>>,
     entries: &[DataEntry],
     place: usize,
-    tag: &Tag,
 )
     requires { (name : List ℕ) → WaitsAt (marks_in marks.now) entries.now name (get name_order topics.old name) }
-    ensures advanced { (name : List ℕ) → is_of_both tag.now name (batch_at entries.now place) ≡ true →
+    ensures advanced { (name : List ℕ) → is_in_topic name (batch_at entries.now place) ≡ true →
         TopicAt (marks_in marks.now) entries.now name (get name_order topics.new name) }
-    ensures others { (name : List ℕ) → is_of_both tag.now name (batch_at entries.now place) ≡ false →
+    ensures others { (name : List ℕ) → is_in_topic name (batch_at entries.now place) ≡ false →
         get name_order topics.new name ≡ get name_order topics.old name }
     ensures rows { (name : List ℕ) → IsSome (get name_order topics.old name) → IsSome (get name_order topics.new name) }
     ensures room { (n : ℕ) (name : List ℕ) → RoomAt n (get name_order topics.old name) →
         RoomAt n (get name_order topics.new name) }
 {
-    match topic_with(entries, place, tag) {
-        Some(topic) => advance(topics, marks, entries, topic),
+    match batch_at(entries, place) {
+        Some(batch) => advance(topics, marks, entries, &batch.topic),
         None => {}
-    }
-}
-
-// The topic of the batch at a place, if that is of a transaction.
-fn topic_with<'a>(entries: &'a [DataEntry], place: usize, tag: &Tag) -> Option<&'a Name>
-    ensures { option_copied result ≡ topic_with tag.now (batch_at entries.now place) }
-{
-    let batch = batch_at(entries, place)?;
-    if same_tags(tag, &batch.tag) {
-        Some(&batch.topic)
-    } else {
-        None
     }
 }
 
@@ -337,25 +360,5 @@ fn advance(
     match topics.get_mut(topic) {
         Some(kept) => kept.advance(entries, marks),
         None => {}
-    }
-}
-
-// Takes the batches of a transaction out of those without marker.
-fn remove_marked(unmarked: &mut Vec<usize>, entries: &[DataEntry], tag: &Tag)
-    ensures items { unmarked.new.items ≡ filter
-        (λ place. not (is_of_tag tag.now (batch_at entries.now place))) unmarked.old.items }
-    ensures room { vec_capacity unmarked.old ≤ vec_capacity unmarked.new }
-    ensures len { vec_len unmarked.new ≤ vec_len unmarked.old }
-{
-    unmarked.retain(|place| !is_of(entries, *place, tag));
-}
-
-// Whether the batch at a place is of a transaction.
-fn is_of(entries: &[DataEntry], place: usize, tag: &Tag) -> bool
-    ensures { result ≡ is_of_tag tag.now (batch_at entries.now place) }
-{
-    match batch_at(entries, place) {
-        Some(batch) => same_tags(tag, &batch.tag),
-        None => false,
     }
 }

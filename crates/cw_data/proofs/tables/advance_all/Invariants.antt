@@ -7,7 +7,7 @@ use Rattle.cw_data.proofs.tables.advance_all.Given as goal
 abbrev pub invariant-loop-place : goal.invariant-loop-place
 invariant-loop-place l = record {
   waits : (name : List ℕ) → WaitsAt (marks_in l.marks) l.entries name (get name_order l.topics name);
-  next : (name : List ℕ) → NextAt (marks_in l.marks) l.entries l.tag name (drop l.place-index l.unmarked) (get name_order l.topics name);
+  next : (name : List ℕ) → NextAt (marks_in l.marks) l.entries name (drop l.place-index l.places) (get name_order l.topics name);
   rows : (name : List ℕ) → IsSome (get name_order l.initial.topics name) → IsSome (get name_order l.topics name);
   room : (n : ℕ) (name : List ℕ) → RoomAt n (get name_order l.initial.topics name) → RoomAt n (get name_order l.topics name);
 }
