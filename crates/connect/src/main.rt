@@ -8,8 +8,6 @@
 #![tactic(auto)]
 
 mod answer;
-#[cfg(test)]
-mod bounded;
 mod drive;
 mod ending;
 mod lines;

@@ -1,6 +1,5 @@
 //! Scripts in whose middle the output fails or memory is wanting, and the disk behind them.
 use crate::Status;
-use crate::bounded::Bounded;
 use crate::drive::drive;
 use crate::opening::open_transactions;
 use cw_disk::{MemDisk, Way};
@@ -22,12 +21,12 @@ fn leaves_two<R: Abort + AllocGlobal>(
     let script = b"init 0\ninit 1\ninit 2\n".to_vec(rt.alloc())?;
     let mut input = MemSource::new(script, 7, Vec::new(rt.alloc()));
     let mut output = MemSink::new(rt.alloc(), 100, failing);
-    let disk = MemDisk::empty(rt.alloc());
-    let opened = open_transactions(rt.alloc(), Bounded { disk, most }).ok();
+    let disk = MemDisk::empty(rt.alloc()).with_memory_for(most);
+    let opened = open_transactions(rt.alloc(), disk).ok();
     let transactions = opened.ok_or("an empty disk is not opened")?;
     let driven = drive(rt.alloc(), transactions, &mut input, &mut output);
     for way in [Way::AsRead, Way::Old, Way::Noise] {
-        assert_eq!(rt; driven.disk.disk.image(way)?.bytes(), TWO);
+        assert_eq!(rt; driven.disk.image(way)?.bytes(), TWO);
     }
     Ok((driven.status, output))
 }

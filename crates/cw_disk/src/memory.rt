@@ -6,7 +6,7 @@ ghost use Rattle.cw_disk.specs.Memory.{MemState, Leaves, LeftSince, only_this, a
 
 use crate::{Disk, Failed, Held, Memory};
 use cw_types::Past;
-use std::alloc::Global;
+use std::alloc::{AllocError, Global};
 use std::marker::Model;
 
 /// Which image of a disk in memory: with the bytes that were not synced as a read gives them, as they
@@ -34,6 +34,8 @@ pub struct MemDisk {
     calls: u64,
     failing: Vec<u64>,
     fuse: u64,
+    // There is memory for a file of so many bytes.
+    most: u64,
 }
 
 impl Model for MemDisk {
@@ -105,6 +107,7 @@ impl MemDisk {
             calls: 0,
             failing,
             fuse,
+            most: u64::MAX,
         })
     }
 
@@ -130,7 +133,17 @@ impl MemDisk {
             calls: 0,
             failing: Vec::new(alloc),
             fuse: u64::MAX,
+            most: u64::MAX,
         }
+    }
+
+    /// The same disk with memory for a file of at most `most` bytes: past them a `reserve` is refused.
+    pub fn with_memory_for(self, most: u64) -> MemDisk
+        ensures { result ≡ self }
+    {
+        let mut disk = self;
+        disk.most = most;
+        disk
     }
 
     /// What a read gives.
@@ -191,6 +204,9 @@ impl Disk for MemDisk {
     fn reserve(&mut self, to: u64) -> Result<(), Memory> {
         if to <= self.room {
             return Ok(());
+        }
+        if to > self.most {
+            return Err(AllocError);
         }
         self.held.reserve(to as usize)?;
         self.room = to;

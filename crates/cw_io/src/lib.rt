@@ -14,6 +14,7 @@ mod link;
 mod memory;
 mod memory_link;
 mod memory_shelf;
+mod portions;
 mod shelf;
 mod standard;
 mod tcp;

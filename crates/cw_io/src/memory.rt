@@ -5,6 +5,7 @@ ghost use Rattle.cw_io.specs.Calls.{no_calls, is_listed, after_call};
 ghost use Rattle.cw_io.specs.Memory.{AsksForMemory};
 
 use crate::call_plan::CallPlan;
+use crate::portions::{Front, take_in};
 use crate::traits::{Failed, Sink, Source};
 use std::alloc::{AllocError, Global};
 use std::marker::Model;
@@ -12,21 +13,20 @@ use std::marker::Model;
 /// A source in memory.
 #[derive(Debug, Drop)]
 pub struct MemSource {
-    bytes: Vec<u8>,
-    at: usize,
+    front: Front,
     most: usize,
     calls: CallPlan,
 }
 
 impl Model for MemSource {
-    ghost use Rattle.std.specs.Prelude.{◌≤◌, ◌<◌, drop, vec_len};
+    ghost use Rattle.std.specs.Prelude.{◌<◌};
     ghost use Rattle.cw_io.specs.Memory.{SourceState};
 
     ghost Value = { SourceState };
 
-    ghost view = { λ s. record { left = drop s.at s.bytes.items; calls = s.calls } };
+    ghost view = { λ s. record { left = s.front; calls = s.calls } };
 
-    ghost invariant = { λ s. (s.at ≤ vec_len s.bytes) × (0 < s.most) };
+    ghost invariant = { λ s. 0 < s.most };
 }
 
 impl MemSource {
@@ -38,8 +38,7 @@ impl MemSource {
         ensures calls { result.calls ≡ no_calls failing.items }
     {
         MemSource {
-            bytes,
-            at: 0,
+            front: Front::new(bytes),
             most,
             calls: CallPlan::new(failing),
         }
@@ -73,10 +72,7 @@ impl Source for MemSource {
         if self.calls.fails_next() {
             return Err(Failed);
         }
-        let count = into.len().min(self.most).min(self.bytes.len() - self.at);
-        into[..count].copy_from_slice(&self.bytes[self.at..self.at + count]);
-        self.at += count;
-        Ok(count)
+        Ok(self.front.give(self.most, into))
     }
 }
 
@@ -174,9 +170,8 @@ impl Sink for MemSink {
         if self.calls.fails_next() {
             return Err(Failed);
         }
-        let count = from.len().min(self.most);
-        match self.bytes.extend_from_slice(&from[..count]) {
-            Ok(()) => Ok(count),
+        match take_in(&mut self.bytes, self.most, from) {
+            Ok(count) => Ok(count),
             Err(_) => {
                 self.calls.count_fault();
                 Err(Failed)

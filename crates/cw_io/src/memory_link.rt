@@ -6,6 +6,7 @@ ghost use Rattle.cw_io.specs.Memory.{AsksForMemory};
 
 use crate::call_plan::CallPlan;
 use crate::link::Link;
+use crate::portions::{Front, take_in};
 use crate::traits::Failed;
 use std::alloc::{AllocError, Global};
 use std::marker::Model;
@@ -13,28 +14,27 @@ use std::marker::Model;
 /// A link in memory: the bytes that its peer sends are given, and what is written is kept.
 #[derive(Debug, Drop)]
 pub struct MemLink {
-    input: Vec<u8>,
-    at: usize,
+    input: Front,
     output: Vec<u8>,
     most: usize,
     calls: CallPlan,
 }
 
 impl Model for MemLink {
-    ghost use Rattle.std.specs.Prelude.{◌≤◌, ◌<◌, drop, vec_len, vec_capacity};
+    ghost use Rattle.std.specs.Prelude.{◌<◌, vec_capacity};
     ghost use Rattle.cw_io.specs.Memory.{LinkState};
 
     ghost Value = { LinkState };
 
     ghost view = { λ k. record {
-      left = drop k.at k.input.items;
+      left = k.input;
       held = k.output.items;
       room = vec_capacity k.output;
       most = k.most;
       calls = k.calls;
     } };
 
-    ghost invariant = { λ k. (k.at ≤ vec_len k.input) × (0 < k.most) };
+    ghost invariant = { λ k. 0 < k.most };
 }
 
 impl MemLink {
@@ -56,8 +56,7 @@ impl MemLink {
         ensures calls { IfOk result (λ link. link.calls ≡ no_calls failing.items) }
     {
         Ok(MemLink {
-            input,
-            at: 0,
+            input: Front::new(input),
             output: Vec::with_capacity(alloc, room)?,
             most,
             calls: CallPlan::new(failing),
@@ -104,10 +103,7 @@ impl Link for MemLink {
         if self.calls.fails_next() {
             return Err(Failed);
         }
-        let count = into.len().min(self.most).min(self.input.len() - self.at);
-        into[..count].copy_from_slice(&self.input[self.at..self.at + count]);
-        self.at += count;
-        Ok(count)
+        Ok(self.input.give(self.most, into))
     }
 
     fn write(&mut self, from: &[u8]) -> Result<usize, Failed>
@@ -128,9 +124,8 @@ impl Link for MemLink {
         if self.calls.fails_next() {
             return Err(Failed);
         }
-        let count = from.len().min(self.most);
-        match self.output.extend_from_slice(&from[..count]) {
-            Ok(()) => Ok(count),
+        match take_in(&mut self.output, self.most, from) {
+            Ok(count) => Ok(count),
             Err(_) => {
                 self.calls.count_fault();
                 Err(Failed)

@@ -1,4 +1,4 @@
-//! Counts, properties and texts in JSON values.
+//! Numbers, names, properties and texts in JSON values.
 ghost use Rattle.std.specs.Prelude.{◌≡◌, ◌≤◌, false, Some, IfOk};
 ghost use Rattle.serde_json.specs.View.{view, members_view};
 ghost use Rattle.serde_json.specs.Data.{depth};
@@ -7,24 +7,36 @@ ghost use Rattle.serde_json.specs.Read.{max_depth};
 ghost use Rattle.serde_json.specs.Written.{compact_text, has_float};
 ghost use Rattle.cw_json.specs.Reading.{reading};
 ghost use Rattle.cw_keys.specs.Counts.{u64_at, count_at, count_data};
+ghost use Rattle.cw_keys.specs.Parts.{name_at};
 ghost use Rattle.cw_keys.specs.Properties.{member_texts, properties_of, properties_data};
 
 use cw_json::{Props, Text, value_of};
+use cw_types::Name;
 use serde_json::{Map, Value, json};
 use std::alloc::{AllocError, AllocFailed, Global};
 
-// The whole number below 2^64 at a key.
-pub(crate) fn u64_at(key: &str, value: &Value) -> Option<u64>
+/// The whole number below 2^64 at a key of an object, if one stands there.
+pub fn u64_at(key: &str, value: &Value) -> Option<u64>
     ensures { result ≡ u64_at key.now (view value.now) }
 {
     value.get(key)?.as_u64()
 }
 
-// The count below 2^32 at a key.
-pub(crate) fn count_at(key: &str, value: &Value) -> Option<u32>
+/// The whole number below 2^32 at a key of an object, if one stands there.
+pub fn count_at(key: &str, value: &Value) -> Option<u32>
     ensures { result ≡ count_at key.now (view value.now) }
 {
     u32::try_from(u64_at(key, value)?).ok()
+}
+
+/// The name at a key of an object, if a text that is one stands there.
+pub fn name_at(alloc: Global, key: &str, value: &Value) -> Result<Option<Name>, AllocError>
+    ensures { IfOk result (λ name. name ≡ name_at key.now (view value.now)) }
+{
+    match value.get(key).and_then(Value::as_str) {
+        Some(text) => Name::from_bytes(alloc, text.as_bytes()),
+        None => Ok(None),
+    }
 }
 
 // An object with a count alone.

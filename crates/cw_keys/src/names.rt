@@ -1,4 +1,4 @@
-//! Names and tasks within keys.
+//! Names as texts, and names and tasks within keys.
 ghost use Rattle.std.specs.Prelude.{◌≡◌, ◌<◌, ◌^◌, ◌++◌, IfOk, OnOk, option_map};
 ghost use Rattle.cw_keys.specs.Names.{cut_last, task_of, task_text};
 ghost use Rattle.cw_types.specs.Name.{IsName};
@@ -6,6 +6,17 @@ ghost use Rattle.cw_types.specs.Name.{IsName};
 use cw_types::{Name, TaskId};
 use memchr::memrchr;
 use std::alloc::{AllocError, Global};
+
+/// A name as a text.
+pub fn text_of_name(name: &Name) -> &str
+    ensures text { result.now ≡ name.now }
+    ensures name { IsName name.now }
+{
+    match str::from_utf8(name.as_bytes()) {
+        Ok(text) => text,
+        Err(_) => "",
+    }
+}
 
 // What stands before the last dash, and behind it.
 fn cut_last(bytes: &[u8]) -> Option<(&[u8], &[u8])>

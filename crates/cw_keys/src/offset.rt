@@ -13,8 +13,8 @@ use cw_json::read_value;
 use cw_types::PartKey;
 use std::alloc::{AllocError, Global};
 
-// The member that holds a part's offset.
-fn offset_name(part: &PartKey) -> &'static str
+/// The member that holds a part's offset: `position` for a source's partition, `kafka_offset` for a sink's topic.
+pub fn offset_name(part: &PartKey) -> &'static str
     ensures { result.now ≡ offset_name part.now }
 {
     match part {

@@ -4,25 +4,16 @@ ghost use Rattle.serde_json.specs.View.{view, items_view};
 ghost use Rattle.serde_json.specs.Find.{as_array, as_str};
 ghost use Rattle.cw_json.specs.Reading.{reading};
 ghost use Rattle.cw_types.specs.Answers.{Gives};
-ghost use Rattle.cw_keys.specs.Parts.{name_at, part_named, part_in_items, part_of, part_text, part_data, key_data, file_partition, seq_partition, sink_partition, is_raw, IsPart};
+ghost use Rattle.cw_keys.specs.Parts.{part_named, part_in_items, part_of, part_text, part_data, key_data, file_partition, seq_partition, sink_partition, is_raw, IsPart};
 ghost use Rattle.cw_types.specs.Name.{name_of, IsName};
 
 use crate::fault::KeyFault;
-use crate::members::{count_at, text_of_value};
+use crate::members::{count_at, name_at, text_of_value};
+use crate::names::text_of_name;
 use cw_json::read_value;
 use cw_types::{Name, PartKey};
 use serde_json::{Value, json};
 use std::alloc::{AllocError, Global};
-
-// The name at a key.
-fn name_at(alloc: Global, key: &str, value: &Value) -> Result<Option<Name>, AllocError>
-    ensures { IfOk result (λ name. name ≡ name_at key.now (view value.now)) }
-{
-    match value.get(key).and_then(Value::as_str) {
-        Some(text) => Name::from_bytes(alloc, text.as_bytes()),
-        None => Ok(None),
-    }
-}
 
 // The part of a connector that a partition's members name.
 fn part_named(
@@ -100,17 +91,6 @@ pub fn read_part(alloc: Global, key: &[u8]) -> Result<PartKey, KeyFault>
         Ok(part)
     } else {
         Err(KeyFault::BadKey)
-    }
-}
-
-// A name as a text.
-fn text_of_name(name: &Name) -> &str
-    ensures text { result.now ≡ name.now }
-    ensures name { IsName name.now }
-{
-    match str::from_utf8(name.as_bytes()) {
-        Ok(text) => text,
-        Err(_) => "",
     }
 }
 

@@ -1,8 +1,8 @@
 use Rattle.std.proofs.Common.{sym, ap, ◌∙◌, arith}
 use Rattle.cw_io.proofs.Pieces.{left_behind}
-use Rattle.cw_io.proofs.memory.MemSourceSource.read.Goals as goal
+use Rattle.cw_io.proofs.portions.Front.give.Goals as goal
 
 pub returns-clause-taken : goal.returns-clause-taken
 returns-clause-taken c =
-    sym (ap (λ s. s.left) c.self.view_is)
+    sym c.self.view_is
     ∙ left_behind c.self.inside.bytes.items c.deref.result.now c.copy_from_slice.new.self _ c.self.inside.at c.min-count.result (omega arith) c.deref.ensures.value c.copy_from_slice.ensures.after
