@@ -3,4 +3,14 @@ pub mod Lists
 pub mod CrewLemmas
 pub mod ClusterLemmas
 pub mod Written
+pub mod Putting
+pub mod Due
+pub mod Halves
+pub mod Bumps
 pub mod Restarts
+pub mod DataDue
+pub mod Cuts
+pub mod Joins
+pub mod Sorted
+pub mod Planned
+pub mod Plans

@@ -1,16 +1,15 @@
 -- The cluster as it is kept in memory: the model's state, in the parts in which the code has it.
 use Rattle.std.specs.Prelude.{◌≡◌, ◌≢◌, ℕ, ◌<◌, List, [], length, take, slice_index_or, Option, Some, None, Result, Ok, Err, if◌then◌else◌, ◌==◌, not, nat_lt, unwrap_or}
-use Rattle.cw_types.specs.declared.ids.Item.{Item}
 use Rattle.cw_types.specs.declared.logs.DiskName.{DiskName}
 use Rattle.cw_bytes.specs.declared.applied.Applied.{Applied}
 use Rattle.cw_txn.specs.declared.entry.Entry.{Entry}
 use Rattle.cw_txn.specs.Transactions.{Transactions}
 use Rattle.cw_data.specs.DataLog.{DataLog}
+use Rattle.cw_data.specs.declared.entry.DataEntry.{DataEntry}
 use Rattle.cw_config.specs.declared.records.ConfigRecord.{ConfigRecord}
 use Rattle.cw_config.specs.View.{generation_of, task_count_of, is_pending}
 use Rattle.cw_offset.specs.declared.body.OffsetEntry.{OffsetEntry}
-use Rattle.cw_assign.specs.declared.delay.Delay.{Delay}
-use Rattle.cw_group.specs.Group.{GroupState}
+use Rattle.cw_group.specs.Circle.{CircleState}
 use Rattle.cw_model.specs.declared.fault.WorldFault.{WorldFault}
 use Rattle.cw_model.specs.declared.fault.WorldFault.TheVariants.{Closed, Dead, Gone, Memory, StaleGeneration, PendingFence}
 use Rattle.cw_model.specs.declared.journal.JournalEntry.{JournalEntry}
@@ -31,18 +30,12 @@ pub record TopicsState : Type 0 where
   pub entries : Transactions
   pub batches : DataLog
 
--- the group, what departed members held, and the time
-pub record CircleState : Type 0 where
-  pub group : GroupState
-  pub lost : List Item
-  pub delay : Delay
-  pub moment : ℕ
-
--- the cluster, what stays the same of it, and the entries for whose writing memory was taken
+-- the cluster, what stays the same of it, and the entries and data entries for whose writing memory was taken
 pub record Kept : Type 0 where
   pub setting : Setting
   pub state : Cluster
   pub ready : List Entry
+  pub ready_data : List DataEntry
 
 -- the state of these parts
 abbrev pub state_of : TopicsState → CircleState → CrewState → List JournalEntry → Option (DiskName × ℕ) → Cluster

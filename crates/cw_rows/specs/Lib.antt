@@ -1,3 +1,9 @@
 pub mod Crew
+pub mod Entries
 pub mod Kept
+pub mod Tests
 pub mod Writes
+pub mod Producing
+pub mod Marking
+pub mod Joining
+pub mod Planning

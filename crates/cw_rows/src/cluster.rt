@@ -11,9 +11,9 @@ use crate::topics::Topics;
 use cw_assign::Delay;
 use cw_config::ConfigState;
 use cw_feed::Feeds;
-use cw_group::Group;
+use cw_group::{Circle, Group};
 use cw_model::{Instance, InstancePhase, JournalEntry, Row, WorldFault};
-use cw_types::{DiskName, Item, Listed, Name};
+use cw_types::{DiskName, Item, Name};
 use std::alloc::{AllocError, Global};
 use std::marker::Model;
 
@@ -27,26 +27,21 @@ pub struct Cluster {
     pub(crate) agreed: bool,
     pub(crate) topics: Topics,
     pub(crate) crew: Crew,
-    pub(crate) group: Group,
-    pub(crate) lost: Vec<Listed<Item>>,
-    pub(crate) delay: Delay,
-    pub(crate) moment: u64,
+    pub(crate) circle: Circle,
     pub(crate) journal: Vec<JournalEntry>,
     pub(crate) closed: Option<(DiskName, u64)>,
 }
 
 impl Model for Cluster {
-    ghost use Rattle.std.specs.List.{flat_map};
     ghost use Rattle.cw_rows.specs.Kept.{Kept, state_of, IsCluster};
 
     ghost Value = { Kept };
 
     ghost view = { λ c. record {
       setting = record { group = c.name; delay = c.scheduled; feeds = c.feeds; agreed = c.agreed };
-      state = state_of c.topics
-          (record { group = c.group; lost = flat_map (λ items. items) c.lost.items; delay = c.delay; moment = c.moment })
-          c.crew c.journal.items c.closed;
+      state = state_of c.topics c.circle c.crew c.journal.items c.closed;
       ready = c.topics.entries.reserved;
+      ready_data = c.topics.batches.reserved;
     } };
 
     ghost invariant = { λ c. IsCluster c.topics c.crew };
@@ -125,7 +120,7 @@ impl Cluster {
     pub fn group(&self) -> &Group
         ensures { result.now ≡ self.now.state.group }
     {
-        &self.group
+        self.circle.group()
     }
 
     /// The group's name.
@@ -146,14 +141,14 @@ impl Cluster {
     pub fn delay(&self) -> Delay
         ensures { result ≡ self.now.state.delay }
     {
-        self.delay
+        self.circle.delay()
     }
 
     /// The time in milliseconds.
     pub fn moment(&self) -> u64
         ensures { result ≡ self.now.state.moment }
     {
-        self.moment
+        self.circle.moment()
     }
 
     /// The calls that were answered.

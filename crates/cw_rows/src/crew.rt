@@ -5,20 +5,21 @@ ghost use Rattle.cw_assign.specs.Items.{same_item, in_order};
 ghost use Rattle.cw_config.specs.Compaction.{AreAccepted};
 ghost use Rattle.cw_model.specs.declared.instance.InstancePhase.TheVariants as phase;
 ghost use Rattle.cw_model.specs.Lookups.{no_row, no_instance, new_row, is_at};
-ghost use Rattle.cw_model.specs.EventsSources.{at_positions};
-ghost use Rattle.cw_model.specs.Tasks.{taking};
+ghost use Rattle.cw_model.specs.EventsLeading.{leading};
+ghost use Rattle.cw_model.specs.EventsSources.{at_positions, with_epoch, committed_to};
+ghost use Rattle.cw_model.specs.Tasks.{taking, polling_from, cut_of};
 ghost use Rattle.cw_model.specs.EventsGroups.{joining, stable_with};
 ghost use Rattle.cw_model.specs.EventsWorkers.{killed, most_workers};
 ghost use Rattle.cw_model.specs.Phases.{is_ended};
-ghost use Rattle.cw_model.specs.Updates.{in_phase};
+ghost use Rattle.cw_model.specs.Updates.{in_phase, without_lead};
 ghost use Rattle.cw_rows.specs.Crew.{change_at};
 
 use crate::numbers::Numbers;
 use cw_assign::ItemSet;
 use cw_config::{ConfigRecord, ConfigState};
 use cw_group::Synced;
-use cw_model::{Cut, Instance, InstancePhase, Row, RowPhase, Trace};
-use cw_types::{Item, Listed};
+use cw_model::{Cut, Fencing, Instance, InstancePhase, Row, RowPhase, Trace};
+use cw_types::{Epoch, Item, Listed};
 use std::alloc::{AllocError, Global};
 use std::marker::Model;
 use std::mem::replace;
@@ -125,6 +126,32 @@ impl Crew {
         self.rows[w as usize].hearing = hearing;
     }
 
+    /// A worker leads under an epoch, and has fenced nobody yet.
+    pub fn lead(&mut self, w: u32, epoch: Epoch)
+        requires { w < length self.old.rows }
+        ensures { self.new ≡ with_row w (leading epoch) self.old }
+    {
+        let row = &mut self.rows[w as usize];
+        row.lead = Some(epoch);
+        row.fencing = None;
+    }
+
+    /// A worker gives up its lead epoch.
+    pub fn lose_lead(&mut self, w: u32)
+        requires { w < length self.old.rows }
+        ensures { self.new ≡ with_row w without_lead self.old }
+    {
+        self.rows[w as usize].lead = None;
+    }
+
+    /// A worker has fenced so far.
+    pub fn set_fencing(&mut self, w: u32, fencing: Fencing)
+        requires { w < length self.old.rows }
+        ensures { self.new ≡ with_row w (λ row. record row { fencing = Some fencing }) self.old }
+    {
+        self.rows[w as usize].fencing = Some(fencing);
+    }
+
     /// An instance that hasn't ended goes on to a phase.
     pub fn set_phase(&mut self, i: u64, phase: InstancePhase)
         requires there { i < length self.old.instances }
@@ -170,6 +197,42 @@ impl Crew {
         instance.phase = phase;
         instance.last = Some(cut.turn);
         instance.cut = Some(cut);
+    }
+
+    /// A new task gets the epoch of its producer.
+    pub fn init(&mut self, i: u64, epoch: Epoch)
+        requires there { i < length self.old.instances }
+        requires runs { is_ended (slice_index_or self.old.instances i no_instance).phase ≡ false }
+        ensures { self.new ≡ with_instance i (with_epoch epoch) self.old }
+    {
+        let instance = &mut self.instances[i as usize];
+        instance.phase = InstancePhase::Inited;
+        instance.epoch = Some(epoch);
+    }
+
+    /// A sink's task polls on from a position in the topic that it took last.
+    pub fn poll_on(&mut self, i: u64, position: u64)
+        requires there { i < length self.old.instances }
+        requires runs { is_ended (slice_index_or self.old.instances i no_instance).phase ≡ false }
+        ensures { self.new ≡ with_instance i (polling_from phase.Polling position) self.old }
+    {
+        let instance = &mut self.instances[i as usize];
+        let turn = cut_of(instance).turn;
+        instance.phase = InstancePhase::Polling;
+        set_position(&mut instance.positions, self.alloc, turn, position);
+    }
+
+    /// A source's task, whose transaction is committed, polls on behind it, with the next one.
+    pub fn commit(&mut self, i: u64)
+        requires there { i < length self.old.instances }
+        requires runs { is_ended (slice_index_or self.old.instances i no_instance).phase ≡ false }
+        ensures { self.new ≡ with_instance i (λ instance. committed_to (cut_of instance).to instance) self.old }
+    {
+        let instance = &mut self.instances[i as usize];
+        let cut = cut_of(instance);
+        instance.phase = InstancePhase::Polling;
+        instance.number = instance.number.saturating_add(1);
+        set_position(&mut instance.positions, self.alloc, cut.turn, cut.to);
     }
 
     /// An instance ends.
@@ -404,6 +467,38 @@ fn end_if(instances: &mut Vec<Instance>, at: usize, item: &Item)
 {
     if is_of(&instances[at], item) {
         instances[at].phase = InstancePhase::Ended;
+    }
+}
+
+/// What an instance took last.
+pub(crate) fn cut_of(instance: &Instance) -> Cut
+    ensures { result ≡ cut_of instance.now }
+{
+    match instance.cut {
+        Some(cut) => cut,
+        None => Cut {
+            turn: 0,
+            from: 0,
+            to: 0,
+        },
+    }
+}
+
+// The position in the part of a turn is set, where there is one.
+fn set_position(positions: &mut Listed<u64>, alloc: Global, turn: u32, position: u64)
+    ensures { positions.new ≡ slice_set positions.old turn position }
+{
+    let mut items = replace(positions, Listed::new(Vec::new(alloc))).into_vec();
+    set_at(&mut items, turn as usize, position);
+    *positions = Listed::new(items);
+}
+
+// The number at a place is set, where there is one.
+fn set_at(items: &mut Vec<u64>, at: usize, number: u64)
+    ensures { items.new.items ≡ slice_set items.old.items at number }
+{
+    if at < items.len() {
+        items[at] = number;
     }
 }
 

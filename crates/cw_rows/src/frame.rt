@@ -1,14 +1,16 @@
 //! A frame of the transaction log.
-ghost use Rattle.std.specs.Prelude.{◌≡◌, ◌∷◌, [], List, length, ◌≤◌, ◌^◌, IfOk, OnOk, Contains};
-ghost use Rattle.cw_txn.specs.Body.{IsShort, AreShort, entries_bytes};
-ghost use Rattle.cw_txn.specs.declared.entry.Entry.{Entry};
+ghost use Rattle.std.specs.Prelude.{◌≡◌, ◌∷◌, [], ℕ, List, length, ◌≤◌, IfOk, Some};
+ghost use Rattle.cw_types.specs.declared.ids.Span.{Span as SpanValue};
+ghost use Rattle.cw_types.specs.declared.ids.Tag.{Tag as TagValue};
+ghost use Rattle.cw_txn.specs.Body.{AreShort, entries_bytes};
+ghost use Rattle.cw_txn.specs.declared.entry.Entry.TheVariants as entry;
 
 use cw_txn::{Entry, write_entries};
-use cw_types::Listed;
+use cw_types::{Listed, Span};
 use std::alloc::{AllocError, Global};
 use std::marker::Model;
 
-/// A frame of the transaction log: its one entry, and its bytes. Clauses see its entries.
+/// A frame of the transaction log: its entries, and its bytes. Clauses see its entries.
 #[derive(Drop)]
 pub struct EntryFrame {
     pub(crate) entries: Listed<Entry>,
@@ -28,16 +30,14 @@ impl Model for EntryFrame {
 }
 
 impl EntryFrame {
-    /// The frame of one entry.
-    pub(crate) fn new(alloc: Global, entry: Entry) -> Result<EntryFrame, AllocError>
-        requires { IsShort entry }
-        ensures { IfOk result (λ frame. frame ≡ entry ∷ []) }
+    /// The frame of entries.
+    pub(crate) fn new(alloc: Global, entries: Vec<Entry>) -> Result<EntryFrame, AllocError>
+        requires { AreShort entries.items }
+        ensures { IfOk result (λ frame. frame ≡ entries.items) }
     {
-        let mut items = Vec::new(alloc);
-        items.push(entry)?;
-        let body = write_entries(alloc, items.as_slice())?;
+        let body = write_entries(alloc, entries.as_slice())?;
         Ok(EntryFrame {
-            entries: Listed::new(items),
+            entries: Listed::new(entries),
             body,
         })
     }
@@ -55,5 +55,17 @@ impl EntryFrame {
         ensures { result.now ≡ self.now }
     {
         self.entries.as_slice()
+    }
+
+    /// The spans of its one entry, a commit.
+    pub(crate) fn into_spans(self) -> Option<Listed<Span>>
+        ensures { (tag : TagValue) (generation : ℕ) (spans : List SpanValue) →
+            self ≡ entry.Commit tag generation spans ∷ [] → result ≡ Some spans }
+    {
+        let mut entries = self.entries.into_vec();
+        match entries.pop() {
+            Some(Entry::Commit { spans, .. }) => Some(spans),
+            _ => None,
+        }
     }
 }

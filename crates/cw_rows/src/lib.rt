@@ -1,22 +1,41 @@
 //! The cluster as it is kept in memory: the workers and what they run, the group, and what follows from the logs.
 //!
 //! Its public contract says of each event that it has that it answers and changes just what the model's event does, or
-//! answers want of memory and changes nothing. It has these, which touch no log: spawn, kill, deaf, hear, clock,
-//! close_round, sync, read_config, start_item, stop_item, restart, verify, fetch, deliver and fail.
+//! answers want of memory and changes nothing. It has these, which touch no log: spawn, kill, deaf, hear, clock, join,
+//! expire, close_round, store_plan, sync, read_config, start_item, stop_item, restart, verify, fetch, deliver, fail and
+//! journal. An event that writes to a log is in two halves: one makes its tests and takes all its memory, the other
+//! puts in what then stands in the log, and can't fail. These are so: init, commit, claim_lead, fence_one, set_offsets,
+//! put_sink, raw_init and raw_commit of the transaction log; produce, and the marks of the data log.
 //! It stands on the model and on the pieces whose states it keeps.
 #![tactic(auto)]
 
+mod batches;
 mod cluster;
 mod crew;
+mod data_frame;
+mod data_log;
+mod entries;
+mod fenced;
 mod frame;
 mod items;
+mod joining;
+mod journaling;
+mod leading;
+mod marking;
 mod numbers;
+mod planning;
+mod producing;
+mod raw;
 mod rounds;
+mod sinks;
+mod sources;
 mod steps;
 mod topics;
 mod workers;
 mod writes;
 
 pub use cluster::Cluster;
+pub use data_frame::DataFrame;
 pub use frame::EntryFrame;
+pub use leading::FenceFrame;
 pub use topics::Topics;

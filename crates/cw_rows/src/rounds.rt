@@ -14,8 +14,7 @@ impl Cluster {
         ensures { Is (close_round w) self.old self.new result }
     {
         self.test_worker(w)?;
-        let round = self.group.round();
-        match self.group.close_round(w, round) {
+        match self.circle.close_round(w) {
             Ok(()) => Ok(()),
             Err(fault) => Err(WorldFault::Group(fault)),
         }
@@ -27,7 +26,8 @@ impl Cluster {
         ensures { IsOrWants (sync w) self.old self.new result }
     {
         self.test_worker(w)?;
-        match self.group.sync(w, self.group.round()) {
+        let group = self.circle.group();
+        match group.sync(w, group.round()) {
             Ok(told) => {
                 self.crew.sync(w, told);
                 Ok(())

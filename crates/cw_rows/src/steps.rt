@@ -129,8 +129,8 @@ fn ends(alloc: Global, coordinator: &Coordinator, parts: &[PartKey]) -> Result<V
     Ok(ends)
 }
 
-// A task's position in the part of a turn.
-fn position_at(instance: &Instance, turn: u32) -> u64
+/// A task's position in the part of a turn.
+pub(crate) fn position_at(instance: &Instance, turn: u32) -> u64
     ensures { result ≡ position_at turn instance.now }
 {
     match instance.positions.as_slice().get(turn as usize) {

@@ -57,7 +57,7 @@ impl Cluster {
     pub fn clock(&mut self, to: u64) -> u64
         ensures { Is (clock to) self.old self.new (Ok result) }
     {
-        self.moment = self.moment.max(to);
-        self.moment
+        self.circle.go_on(to);
+        self.circle.moment()
     }
 }

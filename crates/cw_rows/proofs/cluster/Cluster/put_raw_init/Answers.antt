@@ -1,0 +1,14 @@
+use Rattle.std.proofs.Common.{◌∙◌, ap}
+use Rattle.cw_types.specs.declared.ids.Tid.TheVariants.{Raw}
+use Rattle.cw_model.specs.Updates.{with_entries, next_epoch}
+use Rattle.cw_rows.specs.Kept.{Kept}
+use Rattle.cw_rows.proofs.Halves.{raw_init-puts}
+use Rattle.cw_rows.proofs.cluster.Cluster.put_raw_init.Goals as goal
+
+pub put_bump-requires-clause-bump : goal.put_bump-requires-clause-bump
+put_bump-requires-clause-bump c = (Raw c.args.n, c.requires.frame)
+
+pub returns : goal.returns
+returns c = rw (c.put_bump.ensures.put) (raw_init-puts c.args.n c.args.self.now _ (ap (λ (k : Kept). k.setting) c.self.view_is) c.args.frame c.put_bump.result
+    c.requires.passed c.requires.frame (c.put_bump.ensures.epoch (Raw c.args.n) c.requires.frame ∙ ap (λ (k : Kept). next_epoch (Raw c.args.n) k.state) c.self.view_is)
+    c.requires.room (ap (λ (k : Kept). with_entries c.args.frame k.state) c.self.view_is))

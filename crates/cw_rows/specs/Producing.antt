@@ -1,0 +1,52 @@
+-- What a task does in its transaction, as the code comes to it: first the tests, in the order of the event, then one
+-- entry more in a log (KIP-618).
+use Rattle.std.specs.Prelude.{◌≡◌, ℕ, ◌+◌, ◌<◌, ◌^◌, ◌==◌, None, IsSome, Result, Ok, Err, option_and_then, if◌then◌else◌}
+use Rattle.cw_io.specs.Shelf.{Files}
+use Rattle.cw_data.specs.declared.entry.DataEntry.{DataEntry}
+use Rattle.cw_model.specs.declared.fault.WorldFault.{WorldFault}
+use Rattle.cw_model.specs.declared.fault.WorldFault.TheVariants.{Fenced, BadCut}
+use Rattle.cw_model.specs.declared.instance.Cut.{Cut}
+use Rattle.cw_model.specs.declared.instance.Instance.{Instance}
+use Rattle.cw_model.specs.State.{Setting, Cluster}
+use Rattle.cw_model.specs.Lookups.{instance_of, last_epoch}
+use Rattle.cw_model.specs.Answers.{Answer}
+use Rattle.cw_model.specs.Updates.{appends_data, epoch_in, tid_of}
+use Rattle.cw_model.specs.EventsSources.{is_bad_cut}
+use Rattle.cw_rows.specs.Kept.{instance_test}
+
+-- a test behind another
+abbrev pub and_test : Result (Unit {0}) WorldFault → Result (Unit {0}) WorldFault → Result (Unit {0}) WorldFault
+and_test (Ok passed) test = test
+and_test (Err fault) test = Err fault
+
+-- whether a task's epoch is its producer's last (KIP-98)
+abbrev pub producer_test : ℕ → Cluster → Result (Unit {0}) WorldFault
+producer_test i s = let own = epoch_in (instance_of i s).epoch in
+    let current = last_epoch (tid_of (instance_of i s).item) s in
+    if own == current then Ok tt else Err (Fenced own current)
+
+-- whether a task may write
+abbrev pub writing_test : ℕ → Cluster → Result (Unit {0}) WorldFault
+writing_test i s = and_test (instance_test i s) (producer_test i s)
+
+-- whether a task may take a cut
+abbrev pub cut_test : Files → Cut → Instance → Result (Unit {0}) WorldFault
+cut_test feeds cut i = if is_bad_cut feeds i cut then Err (BadCut cut.from cut.to) else Ok tt
+
+-- whether a task may write the records of a cut
+abbrev pub producing_test : Setting → ℕ → Cut → Cluster → Result (Unit {0}) WorldFault
+producing_test setting i cut s = and_test (writing_test i s) (cut_test setting.feeds cut (instance_of i s))
+
+-- a cut takes fewer than 2^32 bytes of a feed or records of a sequence, as each cut of a poll does
+abbrev pub IsShortCut : Cut → Type 0
+IsShortCut cut = cut.to < cut.from + 2 ^ 32
+
+-- a task has a topic to write, as each task of a source has
+abbrev pub HasTopic : Instance → Type 0
+HasTopic i = IsSome (option_and_then (λ task. task.topic) i.task)
+
+-- an event comes to one entry more in the data log and a change behind it
+pub record AddsData {A : Type 0} (event : Cluster → Answer A) (entry : DataEntry) (change : Cluster → Cluster)
+    (answer : A) (s : Cluster) : Type 0 where
+  pub alive : s.closed ≡ None
+  pub comes : event s ≡ appends_data entry change answer s
