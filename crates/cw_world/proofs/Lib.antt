@@ -1,1 +1,4 @@
 pub mod Quiet
+pub mod Holding
+pub mod Entries
+pub mod Writing

@@ -1,36 +1,34 @@
 -- An event that touches no log leaves a world with all facts, by its law.
-use Rattle.std.proofs.Common.{◌≡◌, List, map, sym, ◌∙◌, subst, refl, Result, Ok, Err}
-use Rattle.cw_txn.specs.declared.entry.Entry.{Entry}
-use Rattle.cw_txn.specs.Body.{entries_bytes}
-use Rattle.cw_data.specs.declared.entry.DataEntry.{DataEntry}
-use Rattle.cw_data.specs.Body.{entry_bytes as data_body}
-use Rattle.cw_types.specs.declared.logs.LogName.TheVariants.{Txn, Batches}
-use Rattle.cw_log.specs.State.{LogState}
+use Rattle.std.proofs.Common.{◌≡◌, sym, ◌∙◌, subst, refl, Result, Ok, Err}
+use Rattle.cw_disk.specs.declared.device.Disk.{Ghosts}
 use Rattle.cw_model.specs.declared.fault.WorldFault.{WorldFault}
 use Rattle.cw_model.specs.declared.fault.WorldFault.TheVariants.{Fenced, StaleGeneration, PendingFence, BadCut, Gone, Full, StoreFault, Closed, Dead, Group, TooMany, Memory}
 use Rattle.cw_model.specs.State.{Setting, Cluster}
 use Rattle.cw_model.specs.Answers.{Answer}
 use Rattle.cw_model.specs.Facts.{AreFacts}
+use Rattle.cw_model.specs.Reopening.{stored_of}
+use Rattle.cw_model.specs.StandsFor.{Stored}
 use Rattle.cw_laws.specs.Laws.{Keeps}
 use Rattle.cw_rows.specs.Kept.{Kept, HasSameLogs, Is, IsOrWants}
-use Rattle.cw_world.specs.World.{Holds, IsWorld}
+use Rattle.cw_world.specs.Logs.{LogsState, HoldAll}
+use Rattle.cw_world.specs.World.{IsWorld}
+use Rattle.cw_world.proofs.Holding.{stored-same}
 
-module _ {D : Type 0} (txn batches : LogState D) where
+module _ {D : Type 0} (G : Ghosts D) (logs : LogsState D) where
   -- the logs hold what stood in them
-  stays : (setting : Setting) (old new : Cluster) → AreFacts setting new → HasSameLogs old new → IsWorld setting old txn batches →
-      IsWorld setting new txn batches
+  stays : (setting : Setting) (old new : Cluster) → AreFacts setting new → HasSameLogs old new → IsWorld G setting old logs →
+      IsWorld G setting new logs
   stays setting old new facts same world = record {
     facts = facts;
-    holds_txn = λ alive. subst (λ (frames : List (List Entry)). Holds Txn (map entries_bytes frames) txn) (sym same.txn) (world.holds_txn (sym same.closed ∙ alive));
-    holds_data = λ alive. subst (λ (entries : List DataEntry). Holds Batches (map data_body entries) batches) (sym same.batches) (world.holds_data (sym same.closed ∙ alive));
+    holds = λ alive. subst (λ (stored : Stored). HoldAll G stored logs) (sym (stored-same old new same)) (world.holds (sym same.closed ∙ alive));
   }
 
   -- an event that is done, or is refused
   pub quiet-keeps : {A : Type 0} (event : Cluster → Answer A) (old new : Kept) (result : Result A WorldFault) →
-      Keeps old.setting old.state (event old.state) → Is event old new result → IsWorld old.setting old.state txn batches →
-      IsWorld new.setting new.state txn batches
+      Keeps old.setting old.state (event old.state) → Is event old new result → IsWorld G old.setting old.state logs →
+      IsWorld G new.setting new.state logs
   quiet-keeps {A} event old new result law is world =
-      subst (λ (setting : Setting). IsWorld setting new.state txn batches) (sym is.setting)
+      subst (λ (setting : Setting). IsWorld G setting new.state logs) (sym is.setting)
       (stays old.setting old.state new.state (subst (λ (a : Answer A). AreFacts old.setting a.1) is.row (law world.facts)) is.logs world)
 
   -- what an event leaves is what its row says
@@ -57,8 +55,8 @@ module _ {D : Type 0} (txn batches : LogState D) where
   wants-keeps event old new (Err TooMany) behind before is = facts-behind event old new (Err TooMany) behind (is.done (λ e. cc))
 
   pub wanting-keeps : {A : Type 0} (event : Cluster → Answer A) (old new : Kept) (result : Result A WorldFault) →
-      Keeps old.setting old.state (event old.state) → IsOrWants event old new result → IsWorld old.setting old.state txn batches →
-      IsWorld new.setting new.state txn batches
+      Keeps old.setting old.state (event old.state) → IsOrWants event old new result → IsWorld G old.setting old.state logs →
+      IsWorld G new.setting new.state logs
   wanting-keeps event old new result law is world =
-      subst (λ (setting : Setting). IsWorld setting new.state txn batches) (sym is.setting)
+      subst (λ (setting : Setting). IsWorld G setting new.state logs) (sym is.setting)
       (stays old.setting old.state new.state (wants-keeps event old new result (law world.facts) world.facts is) is.logs world)

@@ -1,1 +1,4 @@
+pub mod Logs
+pub mod Write
 pub mod World
+pub mod Moments

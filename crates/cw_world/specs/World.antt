@@ -1,38 +1,27 @@
--- The world: a state of the cluster, and the logs that hold what stands in it.
-use Rattle.std.specs.Prelude.{◌≡◌, ◌≢◌, ℕ, false, List, map, Some, None, Result, Err}
-use Rattle.cw_log.specs.Log.{kind_of, length_of}
-use Rattle.cw_log.specs.State.{LogState}
+-- The world: a state of the cluster, and the five logs that hold what stands in it; and what an event does to both.
+use Rattle.std.specs.Prelude.{◌≡◌, ◌≢◌, ◌⊎◌, ℕ, List, Some, None, Result, Ok, Err}
 use Rattle.cw_types.specs.declared.logs.LogName.{LogName}
-use Rattle.cw_types.specs.declared.logs.LogName.TheVariants.{Txn, Batches}
-use Rattle.cw_txn.specs.Body.{entries_bytes}
-use Rattle.cw_data.specs.Body.{entry_bytes as data_body}
+use Rattle.cw_types.specs.declared.logs.DiskName.{DiskName}
+use Rattle.cw_disk.specs.declared.device.Disk.{Ghosts}
 use Rattle.cw_model.specs.declared.fault.WorldFault.{WorldFault}
-use Rattle.cw_model.specs.declared.fault.WorldFault.TheVariants.{Memory}
+use Rattle.cw_model.specs.declared.fault.WorldFault.TheVariants.{Memory, StoreFault}
 use Rattle.cw_model.specs.State.{Setting, Cluster}
 use Rattle.cw_model.specs.Answers.{Answer}
-use Rattle.cw_model.specs.Bodies.{most_log}
 use Rattle.cw_model.specs.Facts.{AreFacts}
+use Rattle.cw_model.specs.Reopening.{stored_of, closed_by}
+use Rattle.cw_world.specs.Logs.{LogsState, HoldAll, HaveSameOthers, HasSameBodies, AddsTo, view_in, list_in, faults_in}
+use Rattle.cw_world.specs.Write.{FailsOn}
 
 -- the state, what stays the same, and the logs
 pub record WorldState (D : Type 0) : Type 0 where
   pub setting : Setting
   pub state : Cluster
-  pub txn : LogState D
-  pub batches : LogState D
+  pub logs : LogsState D
 
--- a log that is open, and of which these are the bodies where its disk tells any
-pub record Holds {D : Type 0} (name : LogName) (bodies : List (List ℕ)) (log : LogState D) : Type 0 where
-  pub kind : log.kind ≡ kind_of name
-  pub told : (own : List (List ℕ)) → log.bodies ≡ Some own → own ≡ bodies
-  pub size : log.length ≡ length_of bodies
-  pub limit : log.limit ≡ most_log
-  pub alive : log.shut ≡ false
-
--- all facts of the state; and while it is open, the logs hold what stands in it
-pub record IsWorld {D : Type 0} (setting : Setting) (s : Cluster) (txn batches : LogState D) : Type 0 where
+-- all facts of the state; and while it is open, the logs hold just what stands in it
+pub record IsWorld {D : Type 0} (G : Ghosts D) (setting : Setting) (s : Cluster) (logs : LogsState D) : Type 0 where
   pub facts : AreFacts setting s
-  pub holds_txn : s.closed ≡ None → Holds Txn (map entries_bytes s.txn) txn
-  pub holds_data : s.closed ≡ None → Holds Batches (map data_body s.batches) batches
+  pub holds : s.closed ≡ None → HoldAll G (stored_of s) logs
 
 -- ---- what an event that touches no log does
 
@@ -41,8 +30,7 @@ pub record Does {D A : Type 0} (event : Cluster → Answer A) (old new : WorldSt
     : Type 0 where
   pub row : event old.state ≡ (result, new.state)
   pub setting : new.setting ≡ old.setting
-  pub txn : new.txn ≡ old.txn
-  pub batches : new.batches ≡ old.batches
+  pub logs : new.logs ≡ old.logs
 
 -- the same, or memory is wanting and nothing has changed
 pub record DoesOrWants {D A : Type 0} (event : Cluster → Answer A) (old new : WorldState D)
@@ -50,5 +38,37 @@ pub record DoesOrWants {D A : Type 0} (event : Cluster → Answer A) (old new : 
   pub done : result ≢ Err Memory → event old.state ≡ (result, new.state)
   pub wants : result ≡ Err Memory → new.state ≡ old.state
   pub setting : new.setting ≡ old.setting
-  pub txn : new.txn ≡ old.txn
-  pub batches : new.batches ≡ old.batches
+  pub logs : new.logs ≡ old.logs
+
+-- ---- what an event that writes to a log does
+
+-- memory is wanting: the state and the log's list are as before
+pub record RunsOut {D A : Type 0} (G : Ghosts D) (log : LogName) (old new : WorldState D) (result : Result A WorldFault)
+    : Type 0 where
+  pub answer : result ≡ Err Memory
+  pub state : new.state ≡ old.state
+  pub same : HasSameBodies (view_in G log old.logs) (view_in G log new.logs)
+
+-- a disk of the log failed where the event would have been done: its count rose in this call, and all writing has ended
+pub record Breaks {D A : Type 0} (G : Ghosts D) (log : LogName) (event : Cluster → Answer A) (old new : WorldState D)
+    (result : Result A WorldFault) : Type 0 where
+  pub disk : DiskName
+  pub count : ℕ
+  pub answer : result ≡ Err (StoreFault disk count)
+  pub meant : A
+  pub due : (event old.state).0 ≡ Ok meant
+  pub state : new.state ≡ closed_by disk count old.state
+  pub fails : FailsOn log (faults_in G log old.logs) (faults_in G log new.logs) disk count
+  pub same : HasSameBodies (view_in G log old.logs) (view_in G log new.logs)
+
+-- The event is done, or is refused, just as the model says; or memory is wanting, or a disk failed. No other log
+-- changes, and of its own a stop at any moment of the call leaves the list before the event or the one behind it.
+pub record Writes {D A : Type 0} (G : Ghosts D) (log : LogName) (event : Cluster → Answer A) (old new : WorldState D)
+    (result : Result A WorldFault) : Type 0 where
+  pub answers : (event old.state ≡ (result, new.state)) ⊎
+      (RunsOut G log old new result ⊎ Breaks G log event old new result)
+  pub setting : new.setting ≡ old.setting
+  pub others : HaveSameOthers log old.logs new.logs
+  pub leaves : (told : List (List ℕ)) → (view_in G log old.logs).bodies ≡ Some told →
+      AddsTo G log old.logs new.logs (λ list. (list ≡ list_in log (stored_of old.state)) ⊎
+      (list ≡ list_in log (stored_of (event old.state).1)))

@@ -1,26 +1,23 @@
 //! The world.
-ghost use Rattle.std.specs.Prelude.{◌≡◌, ◌<◌, None, length, map, true};
-ghost use Rattle.cw_data.specs.Body.{entry_bytes as data_body};
-ghost use Rattle.cw_txn.specs.Body.{entries_bytes};
-ghost use Rattle.cw_types.specs.declared.logs.LogName.TheVariants as log;
+ghost use Rattle.std.specs.Prelude.{◌≡◌};
 ghost use Rattle.cw_model.specs.Facts.{AreFacts};
 ghost use Rattle.cw_model.specs.Safe.{IsSafe};
 ghost use Rattle.cw_model.specs.Journal.{IsTrueJournal};
-ghost use Rattle.cw_world.specs.World.{Holds};
+ghost use Rattle.cw_model.specs.Reopening.{stored_of};
+ghost use Rattle.cw_world.specs.Logs.{HoldAll};
 
+use crate::logs::Logs;
 use cw_disk::Disk;
 use cw_laws::facts_are_safe;
-use cw_log::TopicLog;
 use cw_rows::Cluster;
 use std::marker::Model;
 
 /// The cluster with its logs. Clauses see the model's state, what stays the same, and the logs. Its type keeps all
-/// facts: every state is safe, and its journal is true.
+/// facts: every state is safe, and its journal is true; and while no disk has failed, the logs hold the state.
 #[derive(Drop)]
 pub struct World<D: Disk> {
     pub(crate) cluster: Cluster,
-    pub(crate) txn: TopicLog<D>,
-    pub(crate) batches: TopicLog<D>,
+    pub(crate) logs: Logs<D>,
 }
 
 impl<D: Disk> Model for World<D> {
@@ -31,29 +28,51 @@ impl<D: Disk> Model for World<D> {
     ghost view = { λ w. record {
       setting = w.cluster.setting;
       state = w.cluster.state;
-      txn = w.txn;
-      batches = w.batches;
+      logs = record {
+        config = w.logs.config;
+        offsets = w.logs.offsets;
+        status = w.logs.status;
+        txn = w.logs.txn;
+        batches = w.logs.batches;
+      };
     } };
 
-    ghost invariant = { λ w. IsWorld w.cluster.setting w.cluster.state w.txn w.batches };
+    ghost invariant = { λ w. IsWorld D.Disk w.cluster.setting w.cluster.state (record {
+      config = w.logs.config;
+      offsets = w.logs.offsets;
+      status = w.logs.status;
+      txn = w.logs.txn;
+      batches = w.logs.batches;
+    }) };
 }
 
 impl<D: Disk> World<D> {
     ghost use Rattle.cw_world.specs.World.{WorldState};
+    ghost use Rattle.cw_world.specs.Logs.{LogsState};
 
     /// A cluster with all facts, and the logs that hold what stands in it.
-    pub fn new(cluster: Cluster, txn: TopicLog<D>, batches: TopicLog<D>) -> World<D>
+    pub fn new(cluster: Cluster, logs: Logs<D>) -> World<D>
         requires facts { AreFacts cluster.setting cluster.state }
-        requires txn { Holds log.Txn (map entries_bytes cluster.state.txn) txn }
-        requires batches { Holds log.Batches (map data_body cluster.state.batches) batches }
-        ensures { result ≡
-            record { setting = cluster.setting; state = cluster.state; txn = txn; batches = batches } }
+        requires holds { HoldAll D.Disk (stored_of cluster.state) (record {
+          config = logs.config;
+          offsets = logs.offsets;
+          status = logs.status;
+          txn = logs.txn;
+          batches = logs.batches;
+        }) }
+        ensures { result ≡ record {
+          setting = cluster.setting;
+          state = cluster.state;
+          logs = record {
+            config = logs.config;
+            offsets = logs.offsets;
+            status = logs.status;
+            txn = logs.txn;
+            batches = logs.batches;
+          };
+        } }
     {
-        World {
-            cluster,
-            txn,
-            batches,
-        }
+        World { cluster, logs }
     }
 
     /// The cluster in memory, to look things up.

@@ -1,0 +1,58 @@
+use Rattle.std.proofs.Common.{◌∷◌, [], sym, subst}
+use Rattle.std.proofs.lemmas.Result.{err_from_is_err_and}
+use Rattle.cw_types.specs.declared.logs.LogName.TheVariants.{Txn}
+use Rattle.cw_model.specs.EventsSinks.{put_sink, MayPutSink}
+use Rattle.cw_model.specs.EventsSinks.{sink_offset}
+use Rattle.cw_model.specs.Lookups.{instance_of}
+use Rattle.cw_world.specs.Logs.{logs_of}
+use Rattle.cw_world.specs.World.{WorldState}
+use Rattle.cw_world.proofs.Entries.{allowed-behind, chains-behind, room-of, sink-grown}
+use Rattle.cw_world.proofs.Holding.{only-txn}
+use Rattle.cw_world.proofs.Writing.{by-bytes, open-log, refuses, not-written, written}
+use Rattle.cw_world.proofs.world.World.put_sink.Goals as goal
+
+pub write-requires-clause-ready : goal.write-requires-clause-ready
+write-requires-clause-ready g c = let l = c.self.inside.logs in let logs = logs_of l.config l.offsets l.status l.txn l.batches in
+    open-log g.D.Disk (put_sink c.args.i c.args.to) Txn c.self.inside.cluster c.ready_put_sink.new.self logs c.body.result.now c.self.invariant (by-bytes Txn (put_sink c.args.i c.args.to) c.body.result.now _ c.self.inside.cluster c.ready_put_sink.new.self c.body.ensures.bytes c.in_ok-frame.ensures.due)
+
+pub invariant_of-self-in_err-write : goal.invariant_of-self-in_err-write
+invariant_of-self-in_err-write g c = let l = c.self.inside.logs in let logs = logs_of l.config l.offsets l.status l.txn l.batches in
+    (not-written g.D.Disk (put_sink c.args.i c.args.to) Txn c.self.inside.cluster c.ready_put_sink.new.self c.write.new.cluster logs (record logs { txn = c.write.new.log }) c.body.result.now
+    (only-txn logs c.write.new.log) c.self.invariant (by-bytes Txn (put_sink c.args.i c.args.to) c.body.result.now _ c.self.inside.cluster c.ready_put_sink.new.self c.body.ensures.bytes c.in_ok-frame.ensures.due) c.in_err-write.field-0.0 c.in_err-write.ensures).1
+
+pub returns-in_err-write : goal.returns-in_err-write
+returns-in_err-write g c = let l = c.self.inside.logs in let logs = logs_of l.config l.offsets l.status l.txn l.batches in
+    let p = err_from_is_err_and c.from_residual-in_err-write.result c.from_residual-in_err-write.ensures.1 in
+    rw (← c.self.view_is, p.1, p.2) (not-written g.D.Disk (put_sink c.args.i c.args.to) Txn c.self.inside.cluster c.ready_put_sink.new.self c.write.new.cluster logs (record logs { txn = c.write.new.log }) c.body.result.now
+    (only-txn logs c.write.new.log) c.self.invariant (by-bytes Txn (put_sink c.args.i c.args.to) c.body.result.now _ c.self.inside.cluster c.ready_put_sink.new.self c.body.ensures.bytes c.in_ok-frame.ensures.due) c.in_err-write.field-0.0 c.in_err-write.ensures).0
+
+pub invariant_of-self-2 : goal.invariant_of-self-2
+invariant_of-self-2 g c = let l = c.self.inside.logs in let logs = logs_of l.config l.offsets l.status l.txn l.batches in
+    (written g.D.Disk (put_sink c.args.i c.args.to) Txn c.self.inside.cluster c.ready_put_sink.new.self c.write.new.cluster logs (record logs { txn = c.write.new.log }) c.body.result.now
+    (only-txn logs c.write.new.log) c.self.invariant (by-bytes Txn (put_sink c.args.i c.args.to) c.body.result.now _ c.self.inside.cluster c.ready_put_sink.new.self c.body.ensures.bytes c.in_ok-frame.ensures.due)
+    c.put_put_sink.new.self tt (c.sinks_keep_facts.ensures.put_sink c.self.inside.cluster.setting c.self.inside.cluster.state c.args.i c.args.to (subst (λ (v : WorldState g.row.D.Denot). MayPutSink c.args.i c.args.to v.state) (sym c.self.view_is) c.requires.may)) c.in_ok-write.ensures c.put_put_sink.ensures).1
+
+pub returns : goal.returns
+returns g c = let l = c.self.inside.logs in let logs = logs_of l.config l.offsets l.status l.txn l.batches in
+    rw (← c.self.view_is) (written g.D.Disk (put_sink c.args.i c.args.to) Txn c.self.inside.cluster c.ready_put_sink.new.self c.write.new.cluster logs (record logs { txn = c.write.new.log }) c.body.result.now
+    (only-txn logs c.write.new.log) c.self.invariant (by-bytes Txn (put_sink c.args.i c.args.to) c.body.result.now _ c.self.inside.cluster c.ready_put_sink.new.self c.body.ensures.bytes c.in_ok-frame.ensures.due)
+    c.put_put_sink.new.self tt (c.sinks_keep_facts.ensures.put_sink c.self.inside.cluster.setting c.self.inside.cluster.state c.args.i c.args.to (subst (λ (v : WorldState g.row.D.Denot). MayPutSink c.args.i c.args.to v.state) (sym c.self.view_is) c.requires.may)) c.in_ok-write.ensures c.put_put_sink.ensures).0
+
+pub returns-in_err-frame : goal.returns-in_err-frame
+returns-in_err-frame g c = let l = c.self.inside.logs in let logs = logs_of l.config l.offsets l.status l.txn l.batches in
+    let p = err_from_is_err_and c.from_residual.result c.from_residual.ensures.1 in
+    rw (← c.self.view_is, p.1, p.2) (refuses g.D.Disk (put_sink c.args.i c.args.to) Txn c.self.inside.cluster c.ready_put_sink.new.self logs c.in_err-frame.field-0.0
+    (c.sinks_keep_facts.ensures.put_sink c.self.inside.cluster.setting c.self.inside.cluster.state c.args.i c.args.to (subst (λ (v : WorldState g.row.D.Denot). MayPutSink c.args.i c.args.to v.state) (sym c.self.view_is) c.requires.may)) c.self.invariant c.in_err-frame.ensures.due).0
+
+pub put_put_sink-requires-clause-allowed : goal.put_put_sink-requires-clause-allowed
+put_put_sink-requires-clause-allowed g c = rw (c.in_ok-write.ensures.answer.kept, c.in_ok-frame.ensures.due.state, c.in_ok-frame.ensures.frame)
+    (allowed-behind (put_sink c.args.i c.args.to) c.self.inside.cluster.setting c.self.inside.cluster.state (sink_offset (instance_of c.args.i c.self.inside.cluster.state) c.args.to ∷ [])
+    (c.sinks_keep_facts.ensures.put_sink c.self.inside.cluster.setting c.self.inside.cluster.state c.args.i c.args.to (subst (λ (v : WorldState g.row.D.Denot). MayPutSink c.args.i c.args.to v.state) (sym c.self.view_is) c.requires.may)) c.self.invariant.facts (sink-grown c.self.inside.cluster.state c.args.i c.args.to c.in_ok-frame.ensures.passed (room-of c.self.inside.cluster c.ready_put_sink.new.self c.body.result.now c.in_ok-frame.frame _ c.in_ok-frame.ensures.due.state c.body.ensures.bytes c.in_ok-frame.ensures.frame c.in_ok-write.ensures.answer.room)))
+
+pub put_put_sink-requires-clause-chains : goal.put_put_sink-requires-clause-chains
+put_put_sink-requires-clause-chains g c = rw (c.in_ok-write.ensures.answer.kept, c.in_ok-frame.ensures.due.state, c.in_ok-frame.ensures.frame)
+    (chains-behind (put_sink c.args.i c.args.to) c.self.inside.cluster.setting c.self.inside.cluster.state (sink_offset (instance_of c.args.i c.self.inside.cluster.state) c.args.to ∷ [])
+    (c.sinks_keep_facts.ensures.put_sink c.self.inside.cluster.setting c.self.inside.cluster.state c.args.i c.args.to (subst (λ (v : WorldState g.row.D.Denot). MayPutSink c.args.i c.args.to v.state) (sym c.self.view_is) c.requires.may)) c.self.invariant.facts (sink-grown c.self.inside.cluster.state c.args.i c.args.to c.in_ok-frame.ensures.passed (room-of c.self.inside.cluster c.ready_put_sink.new.self c.body.result.now c.in_ok-frame.frame _ c.in_ok-frame.ensures.due.state c.body.ensures.bytes c.in_ok-frame.ensures.frame c.in_ok-write.ensures.answer.room)))
+
+pub put_put_sink-requires-clause-passed : goal.put_put_sink-requires-clause-passed
+put_put_sink-requires-clause-passed g c = rw (c.in_ok-write.ensures.answer.kept, c.in_ok-frame.ensures.due.state) c.in_ok-frame.ensures.passed
