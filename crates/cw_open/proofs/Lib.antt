@@ -1,0 +1,9 @@
+pub mod Firsts
+pub mod Steps
+pub mod TagLemmas
+pub mod RisingLemmas
+pub mod Readings
+pub mod OffsetLemmas
+pub mod BatchLemmas
+pub mod StampLemmas
+pub mod EntryLemmas

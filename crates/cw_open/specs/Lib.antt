@@ -1,0 +1,5 @@
+pub mod Judging
+pub mod Entries
+pub mod Tables
+pub mod Passed
+pub mod PassedBatches
