@@ -7,7 +7,7 @@ ghost use Rattle.cw_log.specs.Log.{IsBody, OnCause, kind_of, length_of};
 ghost use Rattle.cw_log.specs.State.{FailedOn};
 ghost use Rattle.cw_log.specs.Compaction.{IsCompactable, OnCompactFault, bodies_in};
 ghost use Rattle.cw_pair.specs.Pair.{IsPairDamaged, IsRight, PairStandsFor};
-ghost use Rattle.cw_pair.specs.State.{HasSamePair, Opens, OpensPairAs, StandsSince, bodies_of, disks_of, faults_of};
+ghost use Rattle.cw_pair.specs.State.{HasSamePair, Opens, OpensPairAs, StandsSince, bodies_of, disks_of, faults_of, side_of};
 
 use crate::choice::choose;
 use crate::open::open_chosen;
@@ -230,6 +230,17 @@ impl<D: Disk> PairLog<D> {
         ensures { result ≡ self.now.log.number }
     {
         self.two.log.number()
+    }
+
+    /// The chosen side: 0 is side a, 1 is side b.
+    #[inline]
+    pub fn side(&self) -> u8
+        ensures { result ≡ side_of self.now.on_b }
+    {
+        if self.two.on_b {
+            return 1;
+        }
+        0
     }
 
     /// Gives the disks of side a and side b back.
