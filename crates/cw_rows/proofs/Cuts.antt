@@ -1,10 +1,8 @@
--- A cut that isn't bad has a yield, and what a short cut yields is short enough to be written.
-use Rattle.std.proofs.Common.{◌≡◌, ℕ, zero, suc, ◌+◌, ◌-◌, ◌<◌, ◌≤◌, ◌^◌, ◌==◌, ◌++◌, ◌∷◌, [], Bool, true, false, not, cond, nat_lt, nat_le, List, length, map, drop, codes, decimal, slice_index, refl, sym, ap, subst, arith, length-append, length-take}
-use Rattle.std.specs.List.{AllByRecursion, range_with_len, flat_map}
+-- A cut that isn't bad has a yield, and how many bytes and records a batch has.
+use Rattle.std.proofs.Common.{◌≡◌, ℕ, zero, suc, ◌+◌, ◌-◌, ◌<◌, ◌≤◌, ◌^◌, ◌==◌, ◌++◌, ◌∷◌, [], Bool, true, false, not, cond, nat_lt, nat_le, List, length, map, take, get_or, slice_index, refl, sym, ap, ◌∙◌, arith, length-append}
+use Rattle.std.specs.List.{AllByRecursion, flat_map}
 use Rattle.std.proofs.lemmas.Bool.{ltb-false, leb-false, leb-true, eqb-true}
-use Rattle.std.proofs.lemmas.Fmt.{length-decimal-le}
 use Rattle.std.proofs.lemmas.List.{length-map}
-use Rattle.std.proofs.lemmas.List.FromFn.{length-range_with_len}
 use Rattle.cw_types.specs.declared.ids.PartKey.{PartKey}
 use Rattle.cw_types.specs.declared.ids.PartKey.TheVariants.{Raw, File, Seq, Sink}
 use Rattle.cw_bytes.specs.Spelling.{word, text, tag_bytes, span_bytes, IsText}
@@ -16,7 +14,7 @@ use Rattle.cw_data.specs.declared.entry.DataEntry.{DataEntry}
 use Rattle.cw_data.specs.declared.entry.DataEntry.TheVariants.{Batch as InBatch, Mark}
 use Rattle.std.specs.Str.{bytes_eq}
 use Rattle.cw_feed.specs.Feeds.{feed_of}
-use Rattle.cw_feed.specs.Yield.{EndsLine, AreLinesOf, HasYield, Yield, between, joined, record_text}
+use Rattle.cw_feed.specs.Yield.{EndsLine, HasYield}
 use Rattle.cw_log.specs.Log.{length_of}
 use Rattle.cw_model.specs.Bodies.{frame_of, has_room}
 use Rattle.cw_model.specs.EventsSources.{is_bad_cut, ends_badly}
@@ -57,50 +55,6 @@ good-yields feeds i cut good =
     let second = past (nat_le cut.to cut.from) ends first.1 in
     part-yields feeds (part_at cut.turn i) (count_of i) cut.from cut.to (leb-false cut.to cut.from second.0) second.1
 
--- ---- what a short cut yields
-
-joined-few : (lines : List (List ℕ)) → length lines ≤ length (joined lines)
-unfolding joined
-joined-few [] = omega arith
-joined-few (line ∷ lines) = omega (arith, joined-few lines, length-append line (10 ∷ joined lines))
-
-joined-each : (lines : List (List ℕ)) (n : ℕ) → length (joined lines) < n → AllByRecursion (λ line. length line < n) lines
-unfolding joined
-joined-each [] n short = tt
-joined-each (line ∷ lines) n short = (
-  omega (arith, short, length-append line (10 ∷ joined lines)),
-  joined-each lines n (omega (arith, short, length-append line (10 ∷ joined lines))),
-)
-
-lines-short : (bytes : List ℕ) (from to : ℕ) (lines : List (List ℕ)) → AreLinesOf (between bytes from to) lines → to < from + 2 ^ 32 → AreValues lines
-lines-short bytes from to lines are short =
-    let few : length (joined lines) < 2 ^ 32 = omega (arith, ap (λ (l : List ℕ). length l) are.whole, length-take (to - from) (drop from bytes)) in
-    (omega (arith, joined-few lines), joined-each lines (2 ^ 32) few)
-
-text-short : (index k : ℕ) → index < 2 ^ 64 → k < 2 ^ 64 → length (record_text index k) < 2 ^ 32
-text-short index k small low = omega (
-  arith,
-  length-decimal-le 20 index (omega arith) (omega arith) small,
-  length-decimal-le 20 k (omega arith) (omega arith) low,
-  length-append (decimal index ++ codes "-") (decimal k),
-  length-append (decimal index) (codes "-"),
-)
-
-texts-short : (index from n : ℕ) → index < 2 ^ 64 → from + n < 2 ^ 64 → AllByRecursion IsText (map (record_text index) (range_with_len from n))
-texts-short index from zero small low = tt
-texts-short index from (suc n) small low = (text-short index from small (omega arith), texts-short index (from + 1) n small (omega arith))
-
-pub yield-short : (feeds : Files) (part : PartKey) (from to : ℕ) (values : List (List ℕ)) → Yield feeds part from to values → to < from + 2 ^ 32 → to < 2 ^ 64 →
-    ((connector : List ℕ) (index : ℕ) → part ≡ Seq connector index → index < 2 ^ 64) → AreValues values
-yield-short feeds (File connector feed) from to values yields short fits numbered = lines-short (feed_of feed feeds) from to values yields.1 short
-yield-short feeds (Seq connector index) from to values yields short fits numbered =
-    subst (λ (l : List (List ℕ)). AreValues l) (sym yields.1) (
-      omega (arith, length-map (range_with_len from (to - from)) (record_text index), length-range_with_len from (to - from)),
-      texts-short index from (to - from) (numbered connector index refl) (omega (arith, yields.0)),
-    )
-yield-short feeds (Raw n) from to values yields short fits numbered = absurd yields
-yield-short feeds (Sink connector topic) from to values yields short fits numbered = absurd yields
-
 -- ---- how many records there are
 
 length-word : (n : ℕ) → length (word n) ≡ 4
@@ -115,8 +69,49 @@ texts-few : (values : List (List ℕ)) → length values ≤ length (flat_map te
 texts-few [] = omega arith
 texts-few (value ∷ values) = omega (arith, texts-few values, length-append (text value) (flat_map text values), length-text value)
 
+-- values whose texts have few bytes are few, and each of them is short
+each-short : (values : List (List ℕ)) → length (flat_map text values) < 2 ^ 32 → AllByRecursion IsText values
+each-short [] short = tt
+each-short (value ∷ values) short = (
+  omega (arith, short, length-append (text value) (flat_map text values), length-text value),
+  each-short values (omega (arith, short, length-append (text value) (flat_map text values))),
+)
+
+pub short-values : (values : List (List ℕ)) → length (flat_map text values) < 2 ^ 32 → AreValues values
+short-values values short = (omega (arith, short, texts-few values), each-short values short)
+
+-- one value more
+pub texts-next : (values : List (List ℕ)) (k : ℕ) (d : List ℕ) → k < length values →
+    length (flat_map text (take (k + 1) values)) ≡ length (flat_map text (take k values)) + (4 + length (get_or values k d))
+texts-next [] k d within = absurd (omega (arith, within))
+texts-next (v ∷ values) zero d within = omega (arith, length-append (text v) [], length-text v)
+texts-next (v ∷ values) (suc k) d within =
+    let next : suc k + 1 ≡ suc (k + 1) = omega arith in
+    ap (λ (n : ℕ). length (flat_map text (take n (v ∷ values)))) next ∙ omega (
+      arith,
+      texts-next values k d (omega (arith, within)),
+      length-append (text v) (flat_map text (take (k + 1) values)),
+      length-append (text v) (flat_map text (take k values)),
+    )
+
+-- a batch has the bytes of its values' texts beside those of one without any
+pub batch_size : (batch : Batch) → length (entry_bytes (InBatch batch)) ≡ length (entry_bytes (InBatch (record batch { values = [] }))) + length (flat_map text batch.values)
+batch_size batch = omega (
+  arith,
+  length-word (length batch.values),
+  length-word 0,
+  length-append (word (length batch.values)) (flat_map text batch.values),
+  length-append (word 0) [],
+  length-append (span_bytes (span_of batch)) (values_bytes batch.values),
+  length-append (span_bytes (span_of batch)) (values_bytes []),
+  length-append (text batch.topic) (span_bytes (span_of batch) ++ values_bytes batch.values),
+  length-append (text batch.topic) (span_bytes (span_of batch) ++ values_bytes []),
+  length-append (tag_bytes batch.tag) (text batch.topic ++ (span_bytes (span_of batch) ++ values_bytes batch.values)),
+  length-append (tag_bytes batch.tag) (text batch.topic ++ (span_bytes (span_of batch) ++ values_bytes [])),
+)
+
 -- a batch has more bytes than records
-values-few : (batch : Batch) → length batch.values ≤ length (entry_bytes (InBatch batch))
+pub values-few : (batch : Batch) → length batch.values ≤ length (entry_bytes (InBatch batch))
 values-few batch = omega (
   arith,
   texts-few batch.values,
@@ -135,7 +130,7 @@ records-few topic (InBatch batch) = records-if (bytes_eq topic batch.topic) (rec
     (omega (arith, values-few batch, length-map {B = Record} batch.values (λ (value : List ℕ). record { tag = batch.tag; value = value })))
 records-few topic (Mark tag committed) = omega arith
 
-all_records-few : (topic : List ℕ) (log : List DataEntry) → length (records topic log) ≤ length_of (map entry_bytes log)
+pub all_records-few : (topic : List ℕ) (log : List DataEntry) → length (records topic log) ≤ length_of (map entry_bytes log)
 all_records-few topic [] = omega arith
 all_records-few topic (entry ∷ log) = omega (arith, records-few topic entry, all_records-few topic log, length-append (records_in topic entry) (records topic log))
 

@@ -1,16 +1,18 @@
 -- What the tests of a task say of its row, and what the row of an event is that writes an entry to the data log.
-use Rattle.std.proofs.Common.{◌≡◌, ◌≢◌, ℕ, ◌==◌, ◌≤◌, Bool, true, false, List, [], ◌∷◌, ◌++◌, map, length, Option, Some, None, Result, Ok, Err, if◌then◌else◌, refl, sym, ◌∙◌, ap, subst, arith}
+use Rattle.std.proofs.Common.{◌≡◌, ◌≢◌, ℕ, ◌+◌, ◌^◌, ◌==◌, ◌≤◌, Bool, true, false, List, [], ◌∷◌, ◌++◌, map, length, Option, Some, None, Result, Ok, Err, if◌then◌else◌, refl, sym, ◌∙◌, ap, subst, arith}
 use Rattle.cw_types.specs.declared.ids.Tag.{Tag}
 use Rattle.cw_types.specs.declared.logs.DiskName.{DiskName}
 use Rattle.cw_types.specs.declared.logs.LogName.{LogName}
 use Rattle.cw_model.specs.EventsMarking.{mark}
 use Rattle.cw_rows.specs.Marking.{marked_tag, marked_so, data_marker}
 use Rattle.cw_types.specs.declared.logs.LogName.TheVariants.{Batches}
+use Rattle.std.proofs.lemmas.Bool.{false_from_ne_true, leb-true}
+use Rattle.cw_data.specs.declared.entry.Batch.{Batch}
 use Rattle.cw_data.specs.declared.entry.DataEntry.{DataEntry}
 use Rattle.cw_data.specs.declared.entry.DataEntry.TheVariants.{Batch as InBatch, Mark}
 use Rattle.cw_data.specs.Body.{entry_bytes}
 use Rattle.cw_model.specs.declared.fault.WorldFault.{WorldFault}
-use Rattle.cw_model.specs.declared.fault.WorldFault.TheVariants.{Gone, Fenced, BadCut, Memory}
+use Rattle.cw_model.specs.declared.fault.WorldFault.TheVariants.{Gone, Fenced, BadCut, Full, Memory}
 use Rattle.cw_model.specs.declared.instance.Cut.{Cut}
 use Rattle.cw_model.specs.declared.instance.InstancePhase.TheVariants as phase
 use Rattle.cw_model.specs.State.{Cluster, Setting}
@@ -26,7 +28,7 @@ use Rattle.cw_model.specs.declared.journal.JournalEntry.{JournalEntry}
 use Rattle.cw_rows.specs.Crew.{CrewState, with_instance}
 use Rattle.cw_group.specs.Circle.{CircleState}
 use Rattle.cw_rows.specs.Kept.{Kept, TopicsState, state_of, open_test, instance_test, HasSameLogs}
-use Rattle.cw_rows.specs.Producing.{and_test, producer_test, writing_test, cut_test, producing_test, AddsData}
+use Rattle.cw_rows.specs.Producing.{and_test, producer_test, writing_test, cut_test, producing_test, AddsData, IsTooLong}
 use Rattle.cw_rows.specs.Writes.{IsDue, Readies, Refuses, Puts}
 
 -- ---- an event by its tests
@@ -177,6 +179,26 @@ refuses-so {A} event fault old new same setting row = record {
   logs = subst (λ (t : Cluster). HasSameLogs old.state t) (sym same)
       (record { config = refl; offsets = refl; status = refl; txn = refl; batches = refl; closed = refl });
 }
+
+-- a batch that no log has room for is refused as in a full one
+pub refuses-long : (i : ℕ) (cut : Cut) (batch : Batch) (bytes : ℕ) (fault : WorldFault) (old new : Kept) → new.state ≡ old.state → new.setting ≡ old.setting →
+    InBatch batch ≡ batch_of old.setting.feeds (instance_of i old.state) cut → producing_test old.setting i cut old.state ≡ Ok tt →
+    (old.state.closed ≡ None → bytes ≡ data_length old.state) → (fault ≢ Memory → IsTooLong batch bytes fault) →
+    Refuses (produce old.setting i cut) fault old new
+refuses-long i cut batch bytes fault old new same setting is passed size long =
+    refuses-so (produce old.setting i cut) fault old new same setting (λ other. row (long other))
+  where
+    adds : AddsData (produce old.setting i cut) (InBatch batch) (changes_instance i (taking phase.Produced cut)) tt old.state
+    adds = produces old.setting i cut old.state (InBatch batch) is passed
+
+    none : IsTooLong batch bytes fault → fits_data (InBatch batch) old.state ≡ false
+    none l = false_from_ne_true (fits_data (InBatch batch) old.state) (λ fits.
+        absurd (omega (arith, l.long, leb-true (data_length old.state + (length (entry_bytes (InBatch batch)) + 5)) (2 ^ 28) fits)))
+
+    row : IsTooLong batch bytes fault → produce old.setting i cut old.state ≡ refused fault old.state
+    row l = adds.comes ∙ if-false (fits_data (InBatch batch) old.state) _ _ (none l) ∙
+        ap (λ (f : WorldFault). refused {A = Unit {0}} f old.state)
+        (ap (λ (n : ℕ). Full Batches n (frame_of (entry_bytes (InBatch batch)))) (sym (size adds.alive)) ∙ sym l.full)
 
 -- ---- markers
 

@@ -14,3 +14,13 @@ pub mod Joins
 pub mod Sorted
 pub mod Planned
 pub mod Plans
+pub mod ConfigFrames
+pub mod Twins
+pub mod ConfigDue
+pub mod RunningLemmas
+pub mod StatusLemmas
+pub mod Taking
+pub mod Told
+pub mod OffsetDue
+pub mod Opening
+pub mod Replays

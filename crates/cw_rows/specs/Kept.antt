@@ -8,45 +8,54 @@ use Rattle.cw_data.specs.DataLog.{DataLog}
 use Rattle.cw_data.specs.declared.entry.DataEntry.{DataEntry}
 use Rattle.cw_config.specs.declared.records.ConfigRecord.{ConfigRecord}
 use Rattle.cw_config.specs.View.{generation_of, task_count_of, is_pending}
-use Rattle.cw_offset.specs.declared.body.OffsetEntry.{OffsetEntry}
+use Rattle.cw_offset.specs.Calls.{Calls}
 use Rattle.cw_group.specs.Circle.{CircleState}
 use Rattle.cw_model.specs.declared.fault.WorldFault.{WorldFault}
 use Rattle.cw_model.specs.declared.fault.WorldFault.TheVariants.{Closed, Dead, Gone, Memory, StaleGeneration, PendingFence}
 use Rattle.cw_model.specs.declared.journal.JournalEntry.{JournalEntry}
-use Rattle.cw_model.specs.State.{Setting, Paired, StampedStatus, Cluster}
+use Rattle.cw_status.specs.declared.record.StatusRecord.{StatusRecord}
+use Rattle.cw_model.specs.State.{Setting, Paired, Cluster}
 use Rattle.cw_model.specs.Answers.{Answer}
 use Rattle.cw_model.specs.Phases.{is_ended}
 use Rattle.cw_model.specs.Lookups.{no_row, row_of, instance_of}
 use Rattle.cw_rows.specs.Crew.{CrewState}
+use Rattle.cw_rows.specs.Statuses.{StatusList}
+use Rattle.cw_rows.specs.Offsets.{OffsetLogState}
 
 -- what the logs hold, and what follows from it
 pub record TopicsState : Type 0 where
   pub config : Paired (List Applied)
-  pub offsets : Paired OffsetEntry
+  pub offsets : OffsetLogState
   pub status : Paired (List Applied)
   pub txn : List (List Entry)
   pub configs : List ConfigRecord
-  pub statuses : List StampedStatus
+  pub statuses : StatusList
   pub entries : Transactions
   pub batches : DataLog
+  -- the records of the config log for whose writing memory was taken
+  pub ready_configs : List ConfigRecord
 
--- the cluster, what stays the same of it, and the entries and data entries for whose writing memory was taken
+-- the cluster, what stays the same of it, the entries, data entries, configs and statuses for whose writing memory was
+-- taken, and what is told of the offset log
 pub record Kept : Type 0 where
   pub setting : Setting
   pub state : Cluster
   pub ready : List Entry
   pub ready_data : List DataEntry
+  pub ready_configs : List ConfigRecord
+  pub ready_statuses : List StatusRecord
+  pub told : Calls
 
 -- the state of these parts
 abbrev pub state_of : TopicsState → CircleState → CrewState → List JournalEntry → Option (DiskName × ℕ) → Cluster
 state_of topics circle crew journal closed = record {
   config = topics.config;
-  offsets = topics.offsets;
+  offsets = record { frames = topics.offsets.frames; side = topics.offsets.side };
   status = topics.status;
   txn = topics.txn;
   batches = topics.batches.entries;
   configs = topics.configs;
-  statuses = topics.statuses;
+  statuses = topics.statuses.list;
   entries = topics.entries.entries;
   group = circle.group;
   lost = circle.lost;

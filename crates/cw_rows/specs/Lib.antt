@@ -7,3 +7,8 @@ pub mod Producing
 pub mod Marking
 pub mod Joining
 pub mod Planning
+pub mod Configs
+pub mod Statuses
+pub mod Opened
+pub mod Offsets
+pub mod Replaying

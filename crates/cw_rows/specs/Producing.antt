@@ -1,15 +1,20 @@
 -- What a task does in its transaction, as the code comes to it: first the tests, in the order of the event, then one
 -- entry more in a log (KIP-618).
-use Rattle.std.specs.Prelude.{◌≡◌, ℕ, ◌+◌, ◌<◌, ◌^◌, ◌==◌, None, IsSome, Result, Ok, Err, option_and_then, if◌then◌else◌}
+use Rattle.std.specs.Prelude.{◌≡◌, ℕ, ◌≤◌, ◌^◌, ◌==◌, length, None, IsSome, Result, Ok, Err, option_and_then, if◌then◌else◌}
+use Rattle.cw_types.specs.declared.logs.LogName.TheVariants.{Batches}
 use Rattle.cw_io.specs.Shelf.{Files}
+use Rattle.cw_data.specs.Body.{entry_bytes}
+use Rattle.cw_data.specs.declared.entry.Batch.{Batch}
 use Rattle.cw_data.specs.declared.entry.DataEntry.{DataEntry}
+use Rattle.cw_data.specs.declared.entry.DataEntry.TheVariants.{Batch as InBatch}
 use Rattle.cw_model.specs.declared.fault.WorldFault.{WorldFault}
-use Rattle.cw_model.specs.declared.fault.WorldFault.TheVariants.{Fenced, BadCut}
+use Rattle.cw_model.specs.declared.fault.WorldFault.TheVariants.{Fenced, BadCut, Full}
 use Rattle.cw_model.specs.declared.instance.Cut.{Cut}
 use Rattle.cw_model.specs.declared.instance.Instance.{Instance}
 use Rattle.cw_model.specs.State.{Setting, Cluster}
 use Rattle.cw_model.specs.Lookups.{instance_of, last_epoch}
 use Rattle.cw_model.specs.Answers.{Answer}
+use Rattle.cw_model.specs.Bodies.{frame_of}
 use Rattle.cw_model.specs.Updates.{appends_data, epoch_in, tid_of}
 use Rattle.cw_model.specs.EventsSources.{is_bad_cut}
 use Rattle.cw_rows.specs.Kept.{instance_test}
@@ -37,9 +42,10 @@ cut_test feeds cut i = if is_bad_cut feeds i cut then Err (BadCut cut.from cut.t
 abbrev pub producing_test : Setting → ℕ → Cut → Cluster → Result (Unit {0}) WorldFault
 producing_test setting i cut s = and_test (writing_test i s) (cut_test setting.feeds cut (instance_of i s))
 
--- a cut takes fewer than 2^32 bytes of a feed or records of a sequence, as each cut of a poll does
-abbrev pub IsShortCut : Cut → Type 0
-IsShortCut cut = cut.to < cut.from + 2 ^ 32
+-- why a batch isn't written that is longer than any log may be: its log is full
+pub record IsTooLong (batch : Batch) (bytes : ℕ) (why : WorldFault) : Type 0 where
+  pub full : why ≡ Full Batches bytes (frame_of (entry_bytes (InBatch batch)))
+  pub long : 2 ^ 32 ≤ length (entry_bytes (InBatch batch))
 
 -- a task has a topic to write, as each task of a source has
 abbrev pub HasTopic : Instance → Type 0

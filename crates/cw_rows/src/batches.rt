@@ -1,14 +1,11 @@
 //! What a task writes for a cut: its transaction, and what the feeds yield.
-ghost use Rattle.std.specs.Prelude.{◌≡◌, ◌<◌, ◌+◌, ◌^◌, false, length, map, IfOk, not};
-ghost use Rattle.cw_data.specs.Body.{AreValues, IsShort};
+ghost use Rattle.std.specs.Prelude.{◌≡◌, ◌<◌, false, length, map, IfOk, not};
 ghost use Rattle.cw_data.specs.declared.entry.DataEntry.TheVariants.{Batch as InBatch};
 ghost use Rattle.cw_feed.specs.Yield.{HasYield};
 ghost use Rattle.cw_model.specs.EventsSources.{ends_badly, is_bad_cut, batch_of};
 ghost use Rattle.cw_model.specs.Tasks.{parts_of, part_at, count_of, tag_of, topic_of, yielded};
 ghost use Rattle.cw_model.specs.Updates.{tid_of};
-ghost use Rattle.cw_rows.specs.Producing.{cut_test, IsShortCut, HasTopic};
-ghost use Rattle.cw_types.specs.declared.ids.PartKey.TheVariants.{Seq};
-ghost use Rattle.std.specs.Prelude.{ℕ, List};
+ghost use Rattle.cw_rows.specs.Producing.{cut_test, HasTopic};
 
 use crate::steps::position_at;
 use cw_data::Batch;
@@ -116,9 +113,7 @@ pub(crate) fn batch_of(
     requires tag { tag ≡ tag_of instance.now }
     requires topic { HasTopic instance.now }
     requires good { is_bad_cut feeds.now instance.now cut ≡ false }
-    requires short { IsShortCut cut }
     ensures batch { IfOk result (λ batch. InBatch batch ≡ batch_of feeds.now instance.now cut) }
-    ensures short { IfOk result (λ batch. IsShort (InBatch batch)) }
 {
     let part = part_at(instance, cut.turn);
     let values = values_between(alloc, feeds, part, cut.from, cut.to)?;
@@ -155,31 +150,17 @@ fn values_between(
     from: u64,
     to: u64,
 ) -> Result<Listed<Listed<u8>>, AllocError>
-    requires yields { HasYield feeds.now part.now from to }
-    requires short { to < from + 2 ^ 32 }
-    ensures values { IfOk result (λ values. values ≡ yielded feeds.now part.now from to) }
-    ensures short { IfOk result (λ values. AreValues values) }
+    requires { HasYield feeds.now part.now from to }
+    ensures { IfOk result (λ values. values ≡ yielded feeds.now part.now from to) }
 {
     yields_are_one();
     what_is_yielded_is_the_feeds_yield();
-    let _index = index_of(part);
     let texts = feeds.yield_of(part, from, to)?;
     let values = listed(alloc, texts)?;
     Ok(values)
 }
 
-// The number of a sequence.
-fn index_of(part: &PartKey) -> u32
-    ensures is { (connector : List ℕ) (index : ℕ) → part.now ≡ Seq connector index → result ≡ index }
-    ensures small { result < 2 ^ 32 }
-{
-    match part {
-        PartKey::Seq { index, .. } => *index,
-        _ => 0,
-    }
-}
-
-fn listed(alloc: Global, texts: Vec<Vec<u8>>) -> Result<Listed<Listed<u8>>, AllocError>
+pub(crate) fn listed(alloc: Global, texts: Vec<Vec<u8>>) -> Result<Listed<Listed<u8>>, AllocError>
     ensures { IfOk result (λ values. values ≡ map (λ text. text.items) texts.items) }
 {
     let values = texts

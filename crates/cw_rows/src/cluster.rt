@@ -42,6 +42,9 @@ impl Model for Cluster {
       state = state_of c.topics c.circle c.crew c.journal.items c.closed;
       ready = c.topics.entries.reserved;
       ready_data = c.topics.batches.reserved;
+      ready_configs = c.topics.ready_configs;
+      ready_statuses = c.topics.statuses.reserved;
+      told = c.topics.offsets.told;
     } };
 
     ghost invariant = { λ c. IsCluster c.topics c.crew };

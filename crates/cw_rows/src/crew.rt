@@ -5,7 +5,7 @@ ghost use Rattle.cw_assign.specs.Items.{same_item, in_order};
 ghost use Rattle.cw_config.specs.Compaction.{AreAccepted};
 ghost use Rattle.cw_model.specs.declared.instance.InstancePhase.TheVariants as phase;
 ghost use Rattle.cw_model.specs.Lookups.{no_row, no_instance, new_row, is_at};
-ghost use Rattle.cw_model.specs.EventsLeading.{leading};
+ghost use Rattle.cw_model.specs.EventsLeading.{leading, without_fencing};
 ghost use Rattle.cw_model.specs.EventsSources.{at_positions, with_epoch, committed_to};
 ghost use Rattle.cw_model.specs.Tasks.{taking, polling_from, cut_of};
 ghost use Rattle.cw_model.specs.EventsGroups.{joining, stable_with};
@@ -29,9 +29,9 @@ use std::mem::replace;
 pub struct Crew {
     alloc: Global,
     rows: Vec<Row>,
-    instances: Vec<Instance>,
+    pub(crate) instances: Vec<Instance>,
     reads: Vec<ConfigState>,
-    runs: Vec<Numbers>,
+    pub(crate) runs: Vec<Numbers>,
 }
 
 impl Model for Crew {
@@ -150,6 +150,14 @@ impl Crew {
         ensures { self.new ≡ with_row w (λ row. record row { fencing = Some fencing }) self.old }
     {
         self.rows[w as usize].fencing = Some(fencing);
+    }
+
+    /// A worker fences nobody any more.
+    pub fn end_fencing(&mut self, w: u32)
+        requires { w < length self.old.rows }
+        ensures { self.new ≡ with_row w without_fencing self.old }
+    {
+        self.rows[w as usize].fencing = None;
     }
 
     /// An instance that hasn't ended goes on to a phase.
@@ -403,8 +411,8 @@ fn read_on(
     }
 }
 
-// A copy of the records from a place on.
-fn copies_from(
+/// A copy of the records from a place on.
+pub(crate) fn copies_from(
     alloc: Global,
     records: &[ConfigRecord],
     from: u64,
@@ -502,8 +510,8 @@ fn set_at(items: &mut Vec<u64>, at: usize, number: u64)
     }
 }
 
-// Whether an instance is of an item.
-fn is_of(instance: &Instance, item: &Item) -> bool
+/// Whether an instance is of an item.
+pub(crate) fn is_of(instance: &Instance, item: &Item) -> bool
     ensures { IsTrue result ↔ (instance.now.item ≡ item.now) }
 {
     instance.item == *item

@@ -1,4 +1,5 @@
 //! The journal of the calls that were answered.
+ghost use Rattle.std.specs.Prelude.{◌≡◌};
 ghost use Rattle.cw_model.specs.Journal.{journal};
 ghost use Rattle.cw_rows.specs.Kept.{IsOrWants};
 
@@ -17,5 +18,12 @@ impl Cluster {
         };
         push_made(&mut self.journal, entry);
         Ok(number)
+    }
+
+    /// Gives the journal up.
+    pub fn into_journal(self) -> Vec<JournalEntry>
+        ensures { result.items ≡ self.state.journal }
+    {
+        self.journal
     }
 }

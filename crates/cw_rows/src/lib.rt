@@ -5,37 +5,59 @@
 //! expire, close_round, store_plan, sync, read_config, start_item, stop_item, restart, verify, fetch, deliver, fail and
 //! journal. An event that writes to a log is in two halves: one makes its tests and takes all its memory, the other
 //! puts in what then stands in the log, and can't fail. These are so: init, commit, claim_lead, fence_one, set_offsets,
-//! put_sink, raw_init and raw_commit of the transaction log; produce, and the marks of the data log.
+//! put_sink, raw_init and raw_commit of the transaction log; append_config and append_fence of the config log;
+//! put_status of the status log; produce, and the marks of the data log; put_offsets, and the marks of the offset log.
 //! It stands on the model and on the pieces whose states it keeps.
 #![tactic(auto)]
 
+mod agreeing;
 mod batches;
 mod cluster;
+mod config_frame;
+mod config_log;
+mod configs;
 mod crew;
 mod data_frame;
 mod data_log;
 mod entries;
 mod fenced;
+mod fencing_record;
 mod frame;
+mod histories;
 mod items;
 mod joining;
 mod journaling;
 mod leading;
+mod lookups;
 mod marking;
 mod numbers;
+mod offering;
+mod offset_frame;
+mod offset_log;
+mod offset_topic;
+mod opened;
 mod planning;
 mod producing;
 mod raw;
+mod replaying;
+mod reporting;
 mod rounds;
+mod running;
 mod sinks;
+mod sizes;
 mod sources;
+mod status_frame;
+mod status_log;
 mod steps;
 mod topics;
 mod workers;
 mod writes;
 
 pub use cluster::Cluster;
+pub use config_frame::ConfigFrame;
 pub use data_frame::DataFrame;
 pub use frame::EntryFrame;
 pub use leading::FenceFrame;
-pub use topics::Topics;
+pub use offset_frame::OffsetFrame;
+pub use status_frame::StatusFrame;
+pub use topics::{Sides, Topics};

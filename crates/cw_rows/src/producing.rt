@@ -1,5 +1,5 @@
 //! A task writes the records of a cut to the data log (KIP-618).
-ghost use Rattle.std.specs.Prelude.{◌≡◌, ◌≢◌, ◌<◌, length, Ok, Err, true, IfOk, IfErr, OnOk, MatchResult, Contains};
+ghost use Rattle.std.specs.Prelude.{◌≡◌, ◌≢◌, ◌<◌, length, None, Ok, Err, true, IfOk, IfErr, OnOk, MatchResult, Contains};
 ghost use Rattle.cw_data.specs.Body.{IsShort, entry_bytes};
 ghost use Rattle.cw_data.specs.declared.entry.DataEntry.TheVariants.{Batch as InBatch};
 ghost use Rattle.cw_model.specs.Bodies.{frame_of, has_room};
@@ -9,23 +9,25 @@ ghost use Rattle.cw_model.specs.Tasks.{parts_of, tag_of};
 ghost use Rattle.cw_model.specs.declared.fault.WorldFault.{WorldFault};
 ghost use Rattle.cw_model.specs.declared.fault.WorldFault.TheVariants as fault;
 ghost use Rattle.cw_types.specs.declared.logs.LogName.TheVariants as log;
-ghost use Rattle.cw_rows.specs.Producing.{writing_test, producing_test, IsShortCut, HasTopic};
+ghost use Rattle.cw_rows.specs.Producing.{writing_test, producing_test, HasTopic};
 ghost use Rattle.cw_rows.specs.Writes.{bytes_in, Readies, Refuses, Puts};
 
 use crate::batches::{batch_of, tag_of, test_cut};
 use crate::cluster::Cluster;
 use crate::data_frame::DataFrame;
+use crate::sizes::short_batch;
 use cw_data::{Batch, DataEntry};
 use cw_model::{Cut, InstancePhase, WorldFault};
 use cw_types::Tag;
 
 impl Cluster {
-    /// Tests whether a task may write the records of a cut, takes the memory of that, and writes their frame.
-    pub fn ready_produce(&mut self, i: u64, cut: Cut) -> Result<DataFrame, WorldFault>
+    /// Tests whether a task may write the records of a cut, takes the memory of that, and writes their frame. The data
+    /// log has so many bytes; a batch that is longer than any log may be finds it full.
+    pub fn ready_produce(&mut self, i: u64, cut: Cut, bytes: u64) -> Result<DataFrame, WorldFault>
         requires there { i < length self.old.state.instances }
         requires may { MayProduce i cut self.old.state }
         requires topic { HasTopic (instance_of i self.old.state) }
-        requires short { IsShortCut cut }
+        requires bytes { self.old.state.closed ≡ None → bytes ≡ bytes_in log.Batches self.old.state }
         ensures due { MatchResult result
             (λ frame. Readies log.Batches (produce self.old.setting i cut) (entry_bytes frame) self.old self.new)
             (λ fault. Refuses (produce self.old.setting i cut) fault self.old self.new) }
@@ -34,7 +36,8 @@ impl Cluster {
             batch_of self.old.setting.feeds (instance_of i self.old.state) cut) }
         ensures ready { IfOk result (λ frame. Contains self.new.ready_data frame) }
     {
-        let batch = self.batch_to_write(i, cut)?;
+        let whole = self.batch_to_write(i, cut)?;
+        let batch = short_batch(self.alloc, whole, bytes)?;
         let frame = self.ready_data(DataEntry::Batch(batch))?;
         Ok(frame)
     }
@@ -77,10 +80,8 @@ impl Cluster {
         requires there { i < length self.now.state.instances }
         requires turn { cut.turn < length (parts_of (instance_of i self.now.state)) }
         requires topic { HasTopic (instance_of i self.now.state) }
-        requires short { IsShortCut cut }
         ensures batch { IfOk result (λ batch. InBatch batch ≡
             batch_of self.now.setting.feeds (instance_of i self.now.state) cut) }
-        ensures short { IfOk result (λ batch. IsShort (InBatch batch)) }
         ensures passed { OnOk result (producing_test self.now.setting i cut self.now.state ≡ Ok tt) }
         ensures refused { (refusal : WorldFault) → result ≡ Err refusal → refusal ≢ fault.Memory →
             producing_test self.now.setting i cut self.now.state ≡ Err refusal }

@@ -140,8 +140,8 @@ fn commit_of(alloc: Global, own: &Instance, tid: Tid) -> Result<Entry, AllocErro
     })
 }
 
-// The span of what a task took last.
-fn span_of(own: &Instance) -> Result<Span, AllocError>
+/// The span of what a task took last.
+pub(crate) fn span_of(own: &Instance) -> Result<Span, AllocError>
     ensures { IfOk result (λ span. span ≡ span_of own.now) }
 {
     let cut = cut_of(own);

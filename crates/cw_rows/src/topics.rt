@@ -1,67 +1,72 @@
 //! What the logs hold, and what follows from it.
-ghost use Rattle.std.specs.Prelude.{◌≡◌, [], ℕ, Some};
-ghost use Rattle.cw_txn.specs.Legal.{epoch_of};
+ghost use Rattle.std.specs.Prelude.{◌≡◌, ◌<◌, ◌^◌, [], ℕ, Some, IfOk, map};
+ghost use Rattle.cw_bytes.specs.Frames.{EachFrom, joined};
+ghost use Rattle.cw_config.specs.Compaction.{configs_in};
+ghost use Rattle.cw_data.specs.Body.{entry_bytes};
+ghost use Rattle.cw_log.specs.Log.{length_of};
+ghost use Rattle.cw_model.specs.Bodies.{statuses_in};
+ghost use Rattle.cw_model.specs.ConfigsAllowed.{AreAllowedConfigs};
+ghost use Rattle.cw_offset.specs.Replay.{replayed};
+ghost use Rattle.cw_txn.specs.Allowed.{IsAllowedBehind};
+ghost use Rattle.cw_txn.specs.Legal.{ChainsBehind, epoch_of};
+ghost use Rattle.cw_types.specs.declared.ids.PartKey.{PartKey};
 
+use crate::configs::Configs;
+use crate::histories::past_of;
+use crate::offset_log::OffsetLog;
+use crate::opened::{configs_of, coordinator_of, data_of};
+use crate::status_log::StatusLog;
 use cw_bytes::Applied;
 use cw_config::{ConfigRecord, ConfigState};
-use cw_data::DataState;
+use cw_data::{DataEntry, DataState};
 use cw_offset::OffsetEntry;
-use cw_status::StatusRecord;
 use cw_txn::{Coordinator, Entry};
 use cw_types::{Listed, Past};
-use std::alloc::Global;
+use std::alloc::{AllocError, Global};
 use std::marker::Model;
-
-/// A status, and how long the transaction list was when it was written.
-#[derive(Drop)]
-pub(crate) struct Stamped {
-    stamp: u64,
-    status: StatusRecord,
-}
-
-impl Model for Stamped {
-    ghost use Rattle.cw_model.specs.State.{StampedStatus};
-
-    ghost Value = { StampedStatus };
-
-    ghost view = { λ a. record { stamp = a.stamp; status = a.status } };
-}
 
 /// What the logs hold, and what follows from it. What is only told of a frame takes no memory.
 #[derive(Drop)]
 pub struct Topics {
-    config: Past<Listed<Applied>>,
+    pub(crate) config: Past<Listed<Applied>>,
     config_side: u64,
-    offsets: Past<OffsetEntry>,
-    offsets_side: u64,
-    status: Past<Listed<Applied>>,
+    pub(crate) offsets: OffsetLog,
+    pub(crate) status: Past<Listed<Applied>>,
     status_side: u64,
     pub(crate) txn: Past<Listed<Entry>>,
-    statuses: Past<Stamped>,
-    pub(crate) records: Vec<ConfigRecord>,
-    pub(crate) configs: ConfigState,
+    pub(crate) statuses: StatusLog,
+    pub(crate) configs: Configs,
     pub(crate) coordinator: Coordinator,
     pub(crate) data: DataState,
 }
 
+/// The numbers of the sides with which the logs of two sides are opened.
+#[derive(Clone, Copy, Debug, Drop)]
+pub struct Sides {
+    /// That of the config log.
+    pub config: u64,
+    /// That of the offset log.
+    pub offsets: u64,
+    /// That of the status log.
+    pub status: u64,
+}
+
 impl Model for Topics {
-    ghost use Rattle.std.specs.Prelude.{◌≡◌};
     ghost use Rattle.cw_rows.specs.Kept.{TopicsState};
 
     ghost Value = { TopicsState };
 
     ghost view = { λ t. record {
       config = record { frames = t.config.items; side = t.config_side };
-      offsets = record { frames = t.offsets.items; side = t.offsets_side };
+      offsets = t.offsets;
       status = record { frames = t.status.items; side = t.status_side };
       txn = t.txn.items;
-      configs = t.records.items;
-      statuses = t.statuses.items;
+      configs = t.configs.records;
+      statuses = t.statuses;
       entries = t.coordinator;
       batches = t.data;
+      ready_configs = t.configs.ready;
     } };
-
-    ghost invariant = { λ t. t.configs ≡ t.records.items };
 }
 
 impl Topics {
@@ -69,36 +74,86 @@ impl Topics {
     pub fn new(alloc: Global) -> Topics
         ensures { result ≡ record {
           config = record { frames = []; side = 1 };
-          offsets = record { frames = []; side = 1 };
+          offsets = record { frames = []; side = 1; told = record { calls = []; reserved = [] } };
           status = record { frames = []; side = 1 };
           txn = [];
           configs = [];
-          statuses = [];
+          statuses = record { list = []; reserved = [] };
           entries = record { entries = []; reserved = [] };
           batches = record { entries = []; reserved = [] };
+          ready_configs = [];
         } }
     {
         Topics {
             config: Past::new(),
             config_side: 1,
-            offsets: Past::new(),
-            offsets_side: 1,
+            offsets: OffsetLog::new(alloc),
             status: Past::new(),
             status_side: 1,
             txn: Past::new(),
-            statuses: Past::new(),
-            records: Vec::new(alloc),
-            configs: ConfigState::new(alloc),
+            statuses: StatusLog::new(alloc),
+            configs: Configs::new(alloc),
             coordinator: Coordinator::new(alloc),
             data: DataState::new(alloc),
         }
+    }
+
+    /// What the frames of the five logs hold as these are opened, and what follows from it: each record of the config
+    /// log may stand where it does, and so may each entry of the transaction log, where each part goes on from where it
+    /// ended; a disk can hold the data log.
+    pub fn opened(
+        alloc: Global,
+        config: &[Listed<Applied>],
+        offsets: &[OffsetEntry],
+        status: &[Listed<Applied>],
+        txn: &[Listed<Entry>],
+        batches: Vec<DataEntry>,
+        sides: &Sides,
+    ) -> Result<Topics, AllocError>
+        requires configs { AreAllowedConfigs [] (configs_in config.now) }
+        requires entries { EachFrom IsAllowedBehind [] (joined txn.now) }
+        requires chains { (part : PartKey) → EachFrom (ChainsBehind part) [] (joined txn.now) }
+        requires size { length_of (map entry_bytes batches.items) < 2 ^ 64 }
+        ensures { IfOk result (λ topics. topics ≡ record {
+          config = record { frames = config.now; side = sides.now.config };
+          offsets = record {
+            frames = offsets.now;
+            side = sides.now.offsets;
+            told = record { calls = replayed (joined txn.now) offsets.now; reserved = [] };
+          };
+          status = record { frames = status.now; side = sides.now.status };
+          txn = txn.now;
+          configs = configs_in config.now;
+          statuses = record { list = statuses_in status.now; reserved = [] };
+          entries = record { entries = joined txn.now; reserved = [] };
+          batches = record { entries = batches.items; reserved = [] };
+          ready_configs = [];
+        }) }
+    {
+        let configs = Configs::opened(alloc, configs_of(alloc, config)?)?;
+        let statuses = StatusLog::opened(alloc, status)?;
+        let coordinator = coordinator_of(alloc, txn)?;
+        let offsets = OffsetLog::opened(alloc, offsets, sides.offsets, txn, &coordinator)?;
+        let data = data_of(alloc, batches)?;
+        Ok(Topics {
+            config: past_of(config),
+            config_side: sides.config,
+            offsets,
+            status: past_of(status),
+            status_side: sides.status,
+            txn: past_of(txn),
+            statuses,
+            configs,
+            coordinator,
+            data,
+        })
     }
 
     /// The whole config log's state.
     pub fn configs(&self) -> &ConfigState
         ensures { result.now ≡ self.now.configs }
     {
-        &self.configs
+        self.configs.state()
     }
 
     /// The transactions.
@@ -119,6 +174,6 @@ impl Topics {
     pub fn records(&self) -> &[ConfigRecord]
         ensures { result.now ≡ self.now.configs }
     {
-        self.records.as_slice()
+        self.configs.records()
     }
 }

@@ -1,0 +1,11 @@
+use Rattle.std.proofs.Common.{sym, ap, ◌∙◌, List}
+use Rattle.cw_rows.specs.Offsets.{OffsetLogState}
+use Rattle.cw_txn.specs.Legal.{verdict_of}
+use Rattle.cw_offset.specs.Log.{first_unmarked}
+use Rattle.cw_offset.specs.declared.body.OffsetEntry.{OffsetEntry}
+use Rattle.cw_rows.proofs.Told.{first-told}
+use Rattle.cw_rows.proofs.offset_log.OffsetLog.first_unmarked.Goals as goal
+
+pub returns : goal.returns
+returns c = c.first_unmarked.ensures ∙ first-told (verdict_of c.args.txn.now.entries) c.self.inside.frames.items c.self.inside.state.calls c.self.invariant.told ∙
+    ap (λ (l : OffsetLogState). first_unmarked (verdict_of c.args.txn.now.entries) l.frames) c.self.view_is
