@@ -1,20 +1,19 @@
 -- The logs hold what is stored, behind a write to one of them as before it.
-use Rattle.std.proofs.Common.{◌≡◌, ◌≢◌, ℕ, ◌+◌, ◌++◌, ◌∷◌, [], true, false, List, length, Option, Some, None, option_map, refl, sym, ◌∙◌, ap, subst, arith, length-append}
+use Rattle.std.proofs.Common.{◌≡◌, ◌≢◌, ℕ, ◌++◌, ◌∷◌, [], List, length, Option, Some, None, option_map, refl, sym, ◌∙◌, ap, arith, length-append}
 use Rattle.cw_types.specs.declared.logs.LogName.{LogName}
 use Rattle.cw_types.specs.declared.logs.LogName.TheVariants.{Config, Offsets, Status, Txn, Batches}
 use Rattle.cw_disk.specs.declared.device.Disk.{Ghosts}
-use Rattle.cw_disk.specs.Disk.{AddsOf}
 use Rattle.cw_disk.proofs.Moments.{adds_none, adds_weaker}
 use Rattle.cw_log.specs.Log.{length_of}
 use Rattle.cw_log.specs.State.{LogState, StandsSince}
 use Rattle.cw_pair.specs.State.{PairState, StandsSince as PairLeaves}
 use Rattle.cw_laws.proofs.Disks.{length_of-push}
-use Rattle.cw_model.specs.State.{Cluster, Paired}
+use Rattle.cw_model.specs.State.{Cluster}
 use Rattle.cw_model.specs.StandsFor.{Stored}
 use Rattle.cw_model.specs.Reopening.{stored_of}
 use Rattle.cw_rows.specs.Kept.{HasSameLogs}
 use Rattle.cw_rows.specs.Writes.{bytes_in, with_body}
-use Rattle.cw_world.specs.Logs.{LogsState, LogView, IsOpenLog, HoldsList, Holds, HoldAll, HaveSameOthers, HasSameBodies, AddsTo, view_in, view_of_pair, view_of_topic, list_in}
+use Rattle.cw_world.specs.Logs.{LogsState, LogView, HoldsList, Holds, HoldAll, HaveSameOthers, HasSameBodies, AddsTo, view_in, list_in}
 use Rattle.cw_world.specs.Write.{HasBody}
 
 -- what is stored of all logs but this one is the same

@@ -2,3 +2,8 @@ pub mod Quiet
 pub mod Holding
 pub mod Entries
 pub mod Writing
+pub mod Topics
+pub mod Configs
+pub mod Ended
+pub mod OwnOffsets
+pub mod Acting

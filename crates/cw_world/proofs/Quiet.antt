@@ -6,7 +6,6 @@ use Rattle.cw_model.specs.declared.fault.WorldFault.TheVariants.{Fenced, StaleGe
 use Rattle.cw_model.specs.State.{Setting, Cluster}
 use Rattle.cw_model.specs.Answers.{Answer}
 use Rattle.cw_model.specs.Facts.{AreFacts}
-use Rattle.cw_model.specs.Reopening.{stored_of}
 use Rattle.cw_model.specs.StandsFor.{Stored}
 use Rattle.cw_laws.specs.Laws.{Keeps}
 use Rattle.cw_rows.specs.Kept.{Kept, HasSameLogs, Is, IsOrWants}

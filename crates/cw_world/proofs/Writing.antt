@@ -1,5 +1,6 @@
 -- An event that writes to a log does what its row says, and leaves a world with all facts, by its law.
-use Rattle.std.proofs.Common.{◌≡◌, ◌≢◌, ◌⊎◌, ◌++◌, ◌∷◌, [], inl, inr, ⊎_elim, ℕ, Bool, true, false, List, Some, None, Result, Ok, Err, refl, sym, ◌∙◌, ap, subst}
+use Rattle.std.proofs.Common.{◌≡◌, ◌≢◌, ◌⊎◌, ◌++◌, ◌∷◌, [], inl, inr, ⊎_elim, ℕ, Bool, true, false, List, Some, Result, Ok, Err, refl, sym, ◌∙◌, ap, subst}
+use Rattle.logbook.specs.Pages.{Book}
 use Rattle.cw_types.specs.declared.logs.LogName.{LogName}
 use Rattle.cw_disk.specs.declared.device.Disk.{Ghosts}
 use Rattle.cw_model.specs.declared.fault.WorldFault.{WorldFault}
@@ -12,26 +13,26 @@ use Rattle.cw_model.specs.Reopening.{stored_of, closed_by}
 use Rattle.cw_model.specs.StandsFor.{Stored}
 use Rattle.cw_laws.specs.Laws.{Keeps}
 use Rattle.cw_laws.proofs.Clock.{closes-keeps}
-use Rattle.cw_rows.specs.Kept.{Kept, HasSameLogs}
-use Rattle.cw_rows.specs.Writes.{IsDue, IsWritten, Readies, Refuses, Puts, bytes_in, with_body}
-use Rattle.cw_world.specs.Logs.{LogsState, LogView, IsOpenLog, Holds, HoldAll, HaveSameOthers, HasSameBodies, AddsTo, view_in, list_in, faults_in}
-use Rattle.cw_world.specs.Write.{IsWrite, IsAppended, IsFull, IsWanting, IsBroken}
-use Rattle.cw_world.specs.World.{WorldState, IsWorld, Writes, RunsOut, Breaks}
+use Rattle.cw_rows.specs.Kept.{Kept}
+use Rattle.cw_rows.specs.Writes.{Readies, Refuses, Puts, bytes_in, with_body}
+use Rattle.cw_world.specs.Logs.{LogsState, LogView, IsOpenLog, HoldAll, HaveSameOthers, HasSameBodies, AddsTo, view_in, list_in, faults_in}
+use Rattle.cw_world.specs.Write.{IsWrite, IsFull}
+use Rattle.cw_world.specs.World.{WorldState, IsWorld, Writes}
 use Rattle.cw_world.proofs.Holding.{same-others, body-others, hold-behind, holds-same, holds-more, list-with, bytes-are, stored-same, nothing-added, less-added}
 
 -- the world of a cluster and its logs
-abbrev pub world : {D : Type 0} → Kept → LogsState D → WorldState D
-world kept logs = record { setting = kept.setting; state = kept.state; logs = logs }
+abbrev pub world : {D : Type 0} → Book → Kept → LogsState D → WorldState D
+world name kept logs = record { setting = kept.setting; state = kept.state; logs = logs; name = name }
 
--- what an event and its world come to
+-- what an event and its world come to, whichever world it is
 abbrev pub Comes : {D A : Type 0} → Ghosts D → LogName → (Cluster → Answer A) → Kept → LogsState D → Kept → LogsState D → Result A WorldFault → Type 0
 Comes G name event old old_logs new new_logs result =
-    Writes G name event (world old old_logs) (world new new_logs) result × IsWorld G new.setting new.state new_logs
+    ((called : Book) → Writes G name event (world called old old_logs) (world called new new_logs) result) × IsWorld G new.setting new.state new_logs
 
-same-view : (view : LogView) → HasSameBodies view view
+pub same-view : (view : LogView) → HasSameBodies view view
 same-view view = record { bodies = refl; size = refl; bytes = refl; limit = refl }
 
-is-memory : (fault : WorldFault) → (fault ≡ Memory) ⊎ (fault ≢ Memory)
+pub is-memory : (fault : WorldFault) → (fault ≡ Memory) ⊎ (fault ≢ Memory)
 is-memory (Fenced own current) = inr (λ e. cc)
 is-memory (StaleGeneration own current) = inr (λ e. cc)
 is-memory PendingFence = inr (λ e. cc)
@@ -71,7 +72,8 @@ module _ {D : Type 0} (G : Ghosts D) {A : Type 0} (event : Cluster → Answer A)
       (λ (e : fault ≡ Memory). subst (λ (s : Cluster). AreFacts old.setting s) (sym (r.wants e)) known.facts)
       (λ (e : fault ≢ Memory). subst (λ (a : Answer A). AreFacts old.setting a.1) (r.row e) (law known.facts))
       (is-memory fault) in (
-        record {
+        λ called. record {
+          name = refl;
           answers = ⊎_elim
               (λ (e : fault ≡ Memory). inr (inl (record { answer = ap (λ (f : WorldFault). Err f) e; state = r.wants e; same = same-view (view_in G name logs) })))
               (λ (e : fault ≢ Memory). inl (r.row e))
@@ -137,7 +139,8 @@ module _ {D : Type 0} (G : Ghosts D) {A : Type 0} (event : Cluster → Answer A)
     pub not-written : (fault : WorldFault) → IsWrite name body (view_in G name old_logs) (view_in G name new_logs) (faults_in G name old_logs) (faults_in G name new_logs)
         (AddsTo G name old_logs new_logs) mid after (Err fault) → Comes G name event old old_logs after new_logs (Err fault)
     not-written (Full log size frame) w = (
-      record {
+      λ called. record {
+        name = refl;
         answers = inl (is-full log size frame w.answer);
         setting = setting-is w.answer.kept;
         others = others;
@@ -146,7 +149,8 @@ module _ {D : Type 0} (G : Ghosts D) {A : Type 0} (event : Cluster → Answer A)
       stays w.answer.kept w.answer.same w.answer.shut,
     )
     not-written Memory w = (
-      record {
+      λ called. record {
+        name = refl;
         answers = inr (inl (record { answer = refl; state = state-is w.answer.kept; same = w.answer.same }));
         setting = setting-is w.answer.kept;
         others = others;
@@ -158,7 +162,8 @@ module _ {D : Type 0} (G : Ghosts D) {A : Type 0} (event : Cluster → Answer A)
         let here = ready.due.room (moved-room true w.answer.room) in
         let state : after.state ≡ closed_by disk count old.state = w.answer.state ∙ ap (λ (s : Cluster). closed_by disk count s) ready.state in
         let setting : after.setting ≡ old.setting = w.answer.setting ∙ ready.setting in (
-          record {
+          λ called. record {
+            name = refl;
             answers = inr (inr (record {
               disk = disk;
               count = count;
@@ -197,7 +202,8 @@ module _ {D : Type 0} (G : Ghosts D) {A : Type 0} (event : Cluster → Answer A)
         hold-behind G (stored_of old.state) (with_body name body (stored_of old.state)) old_logs new_logs name (body-others name body (stored_of old.state)) others holds-old
         (holds-more name (stored_of old.state) body (view_in G name old_logs) (view_in G name new_logs) (holds-old name) w.answer.has) in
         let facts : AreFacts old.setting new.state = subst (λ (a : Answer A). AreFacts old.setting a.1) row (law known.facts) in (
-          record {
+          λ called. record {
+            name = refl;
             answers = inl row;
             setting = setting;
             others = others;

@@ -1,5 +1,6 @@
 -- The world: a state of the cluster, and the five logs that hold what stands in it; and what an event does to both.
 use Rattle.std.specs.Prelude.{◌≡◌, ◌≢◌, ◌⊎◌, ℕ, List, Some, None, Result, Ok, Err}
+use Rattle.logbook.specs.Pages.{Book}
 use Rattle.cw_types.specs.declared.logs.LogName.{LogName}
 use Rattle.cw_types.specs.declared.logs.DiskName.{DiskName}
 use Rattle.cw_disk.specs.declared.device.Disk.{Ghosts}
@@ -12,11 +13,12 @@ use Rattle.cw_model.specs.Reopening.{stored_of, closed_by}
 use Rattle.cw_world.specs.Logs.{LogsState, HoldAll, HaveSameOthers, HasSameBodies, AddsTo, view_in, list_in, faults_in}
 use Rattle.cw_world.specs.Write.{FailsOn}
 
--- the state, what stays the same, and the logs
+-- the state, what stays the same, the logs, and which world it is
 pub record WorldState (D : Type 0) : Type 0 where
   pub setting : Setting
   pub state : Cluster
   pub logs : LogsState D
+  pub name : Book
 
 -- all facts of the state; and while it is open, the logs hold just what stands in it
 pub record IsWorld {D : Type 0} (G : Ghosts D) (setting : Setting) (s : Cluster) (logs : LogsState D) : Type 0 where
@@ -31,6 +33,7 @@ pub record Does {D A : Type 0} (event : Cluster → Answer A) (old new : WorldSt
   pub row : event old.state ≡ (result, new.state)
   pub setting : new.setting ≡ old.setting
   pub logs : new.logs ≡ old.logs
+  pub name : new.name ≡ old.name
 
 -- the same, or memory is wanting and nothing has changed
 pub record DoesOrWants {D A : Type 0} (event : Cluster → Answer A) (old new : WorldState D)
@@ -39,6 +42,7 @@ pub record DoesOrWants {D A : Type 0} (event : Cluster → Answer A) (old new : 
   pub wants : result ≡ Err Memory → new.state ≡ old.state
   pub setting : new.setting ≡ old.setting
   pub logs : new.logs ≡ old.logs
+  pub name : new.name ≡ old.name
 
 -- ---- what an event that writes to a log does
 
@@ -68,7 +72,24 @@ pub record Writes {D A : Type 0} (G : Ghosts D) (log : LogName) (event : Cluster
   pub answers : (event old.state ≡ (result, new.state)) ⊎
       (RunsOut G log old new result ⊎ Breaks G log event old new result)
   pub setting : new.setting ≡ old.setting
+  pub name : new.name ≡ old.name
   pub others : HaveSameOthers log old.logs new.logs
   pub leaves : (told : List (List ℕ)) → (view_in G log old.logs).bodies ≡ Some told →
       AddsTo G log old.logs new.logs (λ list. (list ≡ list_in log (stored_of old.state)) ⊎
       (list ≡ list_in log (stored_of (event old.state).1)))
+
+-- ---- what any event does
+
+-- The event is done, or is refused, just as the model says; or memory is wanting, or a disk of one log failed. No other
+-- log changes, and of each log a stop at any moment of the call leaves the list before the event or the one behind it.
+pub record Acts {D A : Type 0} (G : Ghosts D) (event : Cluster → Answer A) (old new : WorldState D)
+    (result : Result A WorldFault) : Type 0 where
+  pub log : LogName
+  pub answers : (event old.state ≡ (result, new.state)) ⊎
+      (RunsOut G log old new result ⊎ Breaks G log event old new result)
+  pub setting : new.setting ≡ old.setting
+  pub name : new.name ≡ old.name
+  pub others : HaveSameOthers log old.logs new.logs
+  pub leaves : (any : LogName) → (told : List (List ℕ)) → (view_in G any old.logs).bodies ≡ Some told →
+      AddsTo G any old.logs new.logs (λ list. (list ≡ list_in any (stored_of old.state)) ⊎
+      (list ≡ list_in any (stored_of (event old.state).1)))

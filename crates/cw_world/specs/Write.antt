@@ -1,5 +1,5 @@
 -- What one write to a log does: the log has the body, or why it doesn't.
-use Rattle.std.specs.Prelude.{◌≡◌, ◌⊎◌, ℕ, ◌+◌, Bool, true, false, List, [], ◌∷◌, ◌++◌, Option, Some, Result, Ok, Err, option_map, MatchResult}
+use Rattle.std.specs.Prelude.{◌≡◌, ◌⊎◌, ℕ, ◌+◌, true, false, List, [], ◌∷◌, ◌++◌, Some, Result, option_map, MatchResult}
 use Rattle.cw_types.specs.declared.logs.LogName.{LogName}
 use Rattle.cw_types.specs.declared.logs.DiskName.{DiskName}
 use Rattle.cw_types.specs.Faults.{Rose}

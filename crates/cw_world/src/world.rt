@@ -7,17 +7,20 @@ ghost use Rattle.cw_model.specs.Reopening.{stored_of};
 ghost use Rattle.cw_world.specs.Logs.{HoldAll};
 
 use crate::logs::Logs;
+use crate::name::{WorldName, fresh};
 use cw_disk::Disk;
 use cw_laws::facts_are_safe;
 use cw_rows::Cluster;
 use std::marker::Model;
 
-/// The cluster with its logs. Clauses see the model's state, what stays the same, and the logs. Its type keeps all
-/// facts: every state is safe, and its journal is true; and while no disk has failed, the logs hold the state.
+/// The cluster with its logs. Clauses see the model's state, what stays the same, the logs, and its name. Its type
+/// keeps all facts: every state is safe, and its journal is true; and while no disk has failed, the logs hold the
+/// state.
 #[derive(Drop)]
 pub struct World<D: Disk> {
     pub(crate) cluster: Cluster,
     pub(crate) logs: Logs<D>,
+    pub(crate) name: WorldName,
 }
 
 impl<D: Disk> Model for World<D> {
@@ -35,6 +38,7 @@ impl<D: Disk> Model for World<D> {
         txn = w.logs.txn;
         batches = w.logs.batches;
       };
+      name = w.name.book;
     } };
 
     ghost invariant = { λ w. IsWorld D.Disk w.cluster.setting w.cluster.state (record {
@@ -50,7 +54,7 @@ impl<D: Disk> World<D> {
     ghost use Rattle.cw_world.specs.World.{WorldState};
     ghost use Rattle.cw_world.specs.Logs.{LogsState};
 
-    /// A cluster with all facts, and the logs that hold what stands in it.
+    /// A cluster with all facts, and the logs that hold what stands in it. The world gets a name that no other has.
     pub fn new(cluster: Cluster, logs: Logs<D>) -> World<D>
         requires facts { AreFacts cluster.setting cluster.state }
         requires holds { HoldAll D.Disk (stored_of cluster.state) (record {
@@ -60,19 +64,21 @@ impl<D: Disk> World<D> {
           txn = logs.txn;
           batches = logs.batches;
         }) }
-        ensures { result ≡ record {
-          setting = cluster.setting;
-          state = cluster.state;
-          logs = record {
-            config = logs.config;
-            offsets = logs.offsets;
-            status = logs.status;
-            txn = logs.txn;
-            batches = logs.batches;
-          };
+        ensures setting { result.setting ≡ cluster.setting }
+        ensures state { result.state ≡ cluster.state }
+        ensures logs { result.logs ≡ record {
+          config = logs.config;
+          offsets = logs.offsets;
+          status = logs.status;
+          txn = logs.txn;
+          batches = logs.batches;
         } }
     {
-        World { cluster, logs }
+        World {
+            cluster,
+            logs,
+            name: fresh(),
+        }
     }
 
     /// The cluster in memory, to look things up.

@@ -55,7 +55,7 @@ pub(crate) fn write<L: BodyLog>(
 }
 
 // The disk of a log's side.
-fn disk_of(log: LogName, side: u8) -> DiskName
+pub(crate) fn disk_of(log: LogName, side: u8) -> DiskName
     ensures { result ≡ disk_of log side }
 {
     match log {

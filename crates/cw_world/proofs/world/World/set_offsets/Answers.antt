@@ -21,8 +21,8 @@ invariant_of-self-in_err-write g c = let l = c.self.inside.logs in let logs = lo
 pub returns-in_err-write : goal.returns-in_err-write
 returns-in_err-write g c = let l = c.self.inside.logs in let logs = logs_of l.config l.offsets l.status l.txn l.batches in
     let p = err_from_is_err_and c.from_residual-in_err-write.result c.from_residual-in_err-write.ensures.1 in
-    rw (← c.self.view_is, p.1, p.2) (not-written g.D.Disk (set_offsets c.args.w c.args.name.now c.args.list.now) Txn c.self.inside.cluster c.ready_set_offsets.new.self c.write.new.cluster logs (record logs { txn = c.write.new.log }) c.body.result.now
-    (only-txn logs c.write.new.log) c.self.invariant (by-bytes Txn (set_offsets c.args.w c.args.name.now c.args.list.now) c.body.result.now _ c.self.inside.cluster c.ready_set_offsets.new.self c.body.ensures.bytes c.in_ok-frame.ensures.due) c.in_err-write.field-0.0 c.in_err-write.ensures).0
+    rw (← c.self.view_is, p.1, p.2) ((not-written g.D.Disk (set_offsets c.args.w c.args.name.now c.args.list.now) Txn c.self.inside.cluster c.ready_set_offsets.new.self c.write.new.cluster logs (record logs { txn = c.write.new.log }) c.body.result.now
+    (only-txn logs c.write.new.log) c.self.invariant (by-bytes Txn (set_offsets c.args.w c.args.name.now c.args.list.now) c.body.result.now _ c.self.inside.cluster c.ready_set_offsets.new.self c.body.ensures.bytes c.in_ok-frame.ensures.due) c.in_err-write.field-0.0 c.in_err-write.ensures).0 _)
 
 pub invariant_of-self-2 : goal.invariant_of-self-2
 invariant_of-self-2 g c = let l = c.self.inside.logs in let logs = logs_of l.config l.offsets l.status l.txn l.batches in
@@ -32,15 +32,15 @@ invariant_of-self-2 g c = let l = c.self.inside.logs in let logs = logs_of l.con
 
 pub returns : goal.returns
 returns g c = let l = c.self.inside.logs in let logs = logs_of l.config l.offsets l.status l.txn l.batches in
-    rw (← c.self.view_is) (written g.D.Disk (set_offsets c.args.w c.args.name.now c.args.list.now) Txn c.self.inside.cluster c.ready_set_offsets.new.self c.write.new.cluster logs (record logs { txn = c.write.new.log }) c.body.result.now
+    rw (← c.self.view_is) ((written g.D.Disk (set_offsets c.args.w c.args.name.now c.args.list.now) Txn c.self.inside.cluster c.ready_set_offsets.new.self c.write.new.cluster logs (record logs { txn = c.write.new.log }) c.body.result.now
     (only-txn logs c.write.new.log) c.self.invariant (by-bytes Txn (set_offsets c.args.w c.args.name.now c.args.list.now) c.body.result.now _ c.self.inside.cluster c.ready_set_offsets.new.self c.body.ensures.bytes c.in_ok-frame.ensures.due)
-    c.put_set_offsets.new.self tt (c.set_offsets_keep_facts.ensures c.self.inside.cluster.setting c.self.inside.cluster.state c.args.w c.args.name.now c.args.list.now (subst (λ (v : WorldState g.row.D.Denot). MaySetOffsets c.args.w c.args.name.now c.args.list.now v.state) (sym c.self.view_is) c.requires.may)) c.in_ok-write.ensures c.put_set_offsets.ensures).0
+    c.put_set_offsets.new.self tt (c.set_offsets_keep_facts.ensures c.self.inside.cluster.setting c.self.inside.cluster.state c.args.w c.args.name.now c.args.list.now (subst (λ (v : WorldState g.row.D.Denot). MaySetOffsets c.args.w c.args.name.now c.args.list.now v.state) (sym c.self.view_is) c.requires.may)) c.in_ok-write.ensures c.put_set_offsets.ensures).0 _)
 
 pub returns-in_err-frame : goal.returns-in_err-frame
 returns-in_err-frame g c = let l = c.self.inside.logs in let logs = logs_of l.config l.offsets l.status l.txn l.batches in
     let p = err_from_is_err_and c.from_residual.result c.from_residual.ensures.1 in
-    rw (← c.self.view_is, p.1, p.2) (refuses g.D.Disk (set_offsets c.args.w c.args.name.now c.args.list.now) Txn c.self.inside.cluster c.ready_set_offsets.new.self logs c.in_err-frame.field-0.0
-    (c.set_offsets_keep_facts.ensures c.self.inside.cluster.setting c.self.inside.cluster.state c.args.w c.args.name.now c.args.list.now (subst (λ (v : WorldState g.row.D.Denot). MaySetOffsets c.args.w c.args.name.now c.args.list.now v.state) (sym c.self.view_is) c.requires.may)) c.self.invariant c.in_err-frame.ensures.due).0
+    rw (← c.self.view_is, p.1, p.2) ((refuses g.D.Disk (set_offsets c.args.w c.args.name.now c.args.list.now) Txn c.self.inside.cluster c.ready_set_offsets.new.self logs c.in_err-frame.field-0.0
+    (c.set_offsets_keep_facts.ensures c.self.inside.cluster.setting c.self.inside.cluster.state c.args.w c.args.name.now c.args.list.now (subst (λ (v : WorldState g.row.D.Denot). MaySetOffsets c.args.w c.args.name.now c.args.list.now v.state) (sym c.self.view_is) c.requires.may)) c.self.invariant c.in_err-frame.ensures.due).0 _)
 
 pub put_set_offsets-requires-clause-allowed : goal.put_set_offsets-requires-clause-allowed
 put_set_offsets-requires-clause-allowed g c = rw (c.in_ok-write.ensures.answer.kept, c.in_ok-frame.ensures.due.state, c.in_ok-frame.ensures.frame)

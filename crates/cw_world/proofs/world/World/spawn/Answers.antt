@@ -14,4 +14,5 @@ returns g c = rw (← c.self.view_is) record {
   wants = c.spawn.ensures.wants;
   setting = c.spawn.ensures.setting;
   logs = refl;
+  name = refl;
 }
