@@ -1,0 +1,11 @@
+pub mod Bytes
+pub mod Noted
+pub mod Whole
+pub mod Joined
+pub mod Sets
+pub mod Point
+pub mod StoredRows
+pub mod Placed
+pub mod Entered
+pub mod FilledTags
+pub mod Spelled

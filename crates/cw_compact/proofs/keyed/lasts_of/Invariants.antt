@@ -1,0 +1,9 @@
+use Rattle.std.proofs.Common.{◌≡◌, ◌-◌, take, length}
+use Rattle.cw_bytes.specs.Frames.{joined}
+use Rattle.cw_compact.proofs.keyed.lasts_of.Given as goal
+
+abbrev pub invariant-loop-frame : goal.invariant-loop-frame
+invariant-loop-frame l = record {
+  noted : l.lasts ≡ take l.count (joined (take l.frame-index l.frames));
+  left : l.left ≡ l.count - length (joined (take l.frame-index l.frames));
+}

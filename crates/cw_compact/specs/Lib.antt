@@ -1,0 +1,6 @@
+pub mod Lasts
+pub mod Clean
+pub mod Stored
+pub mod Outcomes
+pub mod Bodies
+pub mod Filled
