@@ -1,6 +1,7 @@
 -- A list as it is walked: each member so far lacks nothing, and the first that does ends the walk.
 use Rattle.std.proofs.Common.{◌≡◌, ℕ, ◌+◌, ◌<◌, ◌≤◌, List, [], ◌∷◌, ◌++◌, length, take, drop, get_or, sym, ap, subst, ◌∙◌, arith, append_assoc, take-append-drop}
 use Rattle.std.proofs.lemmas.List.{append-nil, take_more, drop_more, take_all, length-take-le}
+use Rattle.cw_types.proofs.Lists.{cut_at}
 use Rattle.cw_bytes.specs.Frames.{EachFrom}
 use Rattle.cw_model.specs.StandsFor.{IsFirstLacking}
 
@@ -13,6 +14,10 @@ module _ {A : Type 0} (P : List A → A → Type 0) where
   pub each_from-rest : (before xs ys : List A) → EachFrom P before (xs ++ ys) → EachFrom P (before ++ xs) ys
   each_from-rest before [] ys each = subst (λ (l : List A). EachFrom P l ys) (sym (append-nil before)) each
   each_from-rest before (x ∷ xs) ys each = subst (λ (l : List A). EachFrom P l ys) (append_assoc before (x ∷ []) xs) (each_from-rest (before ++ x ∷ []) xs ys each.1)
+
+  -- what each member has, the one at a place has
+  pub each_at : (old xs : List A) (at : ℕ) → EachFrom P old xs → (x : A) → at < length xs → x ≡ get_or xs at x → P (old ++ take at xs) x
+  each_at old xs at all x within is = (each_from-rest old (take at xs) (x ∷ drop (at + 1) xs) (subst (EachFrom P old) (cut_at xs at x within (sym is)) all)).0
 
   -- the walk is at this member
   module _ (old xs : List A) (at : ℕ) (each : EachFrom P old (take at xs)) (x : A) (within : at < length xs) (is : x ≡ get_or xs at x) where

@@ -3,3 +3,14 @@ pub mod Entries
 pub mod Tables
 pub mod Passed
 pub mod PassedBatches
+pub mod PassedConfigs
+pub mod WaitingTasks
+pub mod Backing
+pub mod Standing
+pub mod SafeEntries
+pub mod Found
+pub mod FoundFrames
+pub mod OpenedLogs
+pub mod Reopened
+pub mod Contents
+pub mod Judged

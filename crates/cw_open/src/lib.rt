@@ -1,21 +1,49 @@
 //! What the five logs hold, judged when a cluster is opened: whether it stands for a state, else its first harm.
 //!
 //! Its public contract says of a log that nothing lacks in it, or which of its frames is the first that isn't allowed
-//! at its place, in the words of the model.
+//! at its place or isn't safe, and of all five logs what is met first, in the words of the model.
 //! It stands on the model and on the pieces whose logs they are.
 #![tactic(auto)]
 
+mod agreeing;
+mod allowed;
 mod batches;
+mod configs;
+mod contents;
 mod entries;
+mod fences;
+mod first_harm;
+mod found;
+mod frames;
+mod gates;
+mod judged_disks;
 mod marks;
 mod offsets;
+mod opening;
+mod read_logs;
+mod reading;
+mod reopen_fault;
 mod rising;
+mod safety;
+mod spans;
 mod stamps;
 mod statuses;
 mod tags;
+#[cfg(test)]
+mod tests;
+mod transactions;
+mod waiting;
 
+pub use agreeing::feeds_agree;
 pub use batches::first_batches_not_allowed;
+pub use configs::first_configs_not_allowed;
 pub use entries::EntryList;
+pub use first_harm::{FirstHarm, FramePlace, judge};
+pub use frames::FramesRead;
+pub use judged_disks::{JudgedDisks, judge_disks};
 pub use offsets::first_offsets_not_allowed;
+pub use reopen_fault::{ReopenCause, ReopenFault};
+pub use safety::first_entries_unsafe;
 pub use stamps::first_configs_not_stamped;
 pub use statuses::first_statuses_not_allowed;
+pub use transactions::first_entries_not_allowed;
