@@ -1,0 +1,5 @@
+pub mod Running
+pub mod Turns
+pub mod Stages
+pub mod Proposed
+pub mod Polled
