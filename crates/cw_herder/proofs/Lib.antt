@@ -1,0 +1,3 @@
+pub mod Acted
+pub mod Ticked
+pub mod Asked
