@@ -21,6 +21,9 @@ pub trait BodyLog {
     /// How many bytes it may have.
     ghost limit: { Self → ℕ };
 
+    /// The number of its side.
+    ghost number: { Self → ℕ };
+
     /// An append of a body of at most so many bytes takes no memory.
     ghost ready: { Self → ℕ };
 
@@ -39,6 +42,15 @@ pub trait BodyLog {
     /// The lists that a stop at some moment from that one on may have left.
     ghost stands_since: { Self → ℕ → List (List ℕ) → Type 0 };
 
+    /// What a stop leaves of all its disks together.
+    ghost Image: { Type 0 };
+
+    /// What a stop now may leave.
+    ghost may_leave: { Self → Image → Type 0 };
+
+    /// What of it stands for a list.
+    ghost stands_for: { Self → List (List ℕ) → Image → Type 0 };
+
     /// Takes the memory of an append of at most `body` bytes, the disks' included.
     fn reserve(&mut self, body: usize) -> Result<(), Memory>
         ensures ready { OnOk result (body ≤ ready self.new) }
@@ -50,6 +62,8 @@ pub trait BodyLog {
         ensures limit { limit self.new ≡ limit self.old }
         ensures shut { is_shut self.new ≡ is_shut self.old }
         ensures failed { last_failed self.new ≡ last_failed self.old }
+        ensures side_number { number self.new ≡ number self.old }
+        ensures later { (side : ℕ) → faults self.old side ≤ faults self.new side }
         ensures any_moment { AddsOf moment stands_since self.old self.new (λ list. ⊥) };
 
     /// Appends a body of 1 to 2^28 bytes, and answers its number. `Shut` comes where an earlier append
@@ -77,8 +91,13 @@ pub trait BodyLog {
         ensures same { OnErr result ((bodies self.new ≡ bodies self.old) × (size self.new ≡ size self.old) ×
             (bytes self.new ≡ bytes self.old)) }
         ensures limit { limit self.new ≡ limit self.old }
+        ensures side_number { number self.new ≡ number self.old }
+        ensures later { (side : ℕ) → faults self.old side ≤ faults self.new side }
         ensures any_moment { is_shut self.old ≡ false → (before : List (List ℕ)) → bodies self.old ≡ Some before →
-            AddsOf moment stands_since self.old self.new (λ list. (list ≡ before) ⊎ (list ≡ before ++ body.now ∷ [])) };
+            AddsOf moment stands_since self.old self.new (λ list. (list ≡ before) ⊎ (list ≡ before ++ body.now ∷ [])) }
+        ensures left { is_shut self.old ≡ false → (before : List (List ℕ)) → bodies self.old ≡ Some before →
+            (image : Image) → may_leave self.new image →
+            stands_for self.new before image ⊎ stands_for self.new (before ++ body.now ∷ []) image };
 
     /// How many bodies there are.
     fn count(&self) -> u64
@@ -102,12 +121,16 @@ pub trait BodyLog {
         ensures bytes { bytes self.new ≡ bytes self.old }
         ensures limit { limit self.new ≡ limit self.old }
         ensures shut { is_shut self.new ≡ is_shut self.old }
+        ensures side_number { number self.new ≡ number self.old }
+        ensures later { (side : ℕ) → faults self.old side ≤ faults self.new side }
         ensures any_moment { AddsOf moment stands_since self.old self.new (λ list. ⊥) };
 
     /// What holds at rest, where no append has failed: a stop leaves just this list. It does nothing.
     fn rest(&self)
         ensures left { is_shut self.now ≡ false → (list : List (List ℕ)) → bodies self.now ≡ Some list →
             (found : List (List ℕ)) → stands_since self.now (moment self.now) found → found ≡ list }
+        ensures images { is_shut self.now ≡ false → (list : List (List ℕ)) → bodies self.now ≡ Some list →
+            (image : Image) → may_leave self.now image → stands_for self.now list image }
         ensures sizes { (list : List (List ℕ)) → bodies self.now ≡ Some list →
             (size self.now ≡ length list) × (bytes self.now ≡ length_of list) };
 

@@ -3,6 +3,8 @@ use crate::{AppendFault, BodyLog, ReadFault, TopicLog};
 use cw_disk::{Disk, Memory};
 
 impl<D: Disk> BodyLog for TopicLog<D> {
+    ghost use Rattle.std.specs.Prelude.{List, ℕ};
+    ghost use Rattle.cw_log.specs.Log.{StandsFor};
     ghost use Rattle.cw_log.specs.State.{StandsSince};
 
     ghost bodies = { λ l. l.bodies };
@@ -12,6 +14,8 @@ impl<D: Disk> BodyLog for TopicLog<D> {
     ghost bytes = { λ l. l.length };
 
     ghost limit = { λ l. l.limit };
+
+    ghost number = { λ l. l.number };
 
     ghost ready = { λ l. l.ready };
 
@@ -24,6 +28,12 @@ impl<D: Disk> BodyLog for TopicLog<D> {
     ghost moment = { λ l. D.moment l.disk };
 
     ghost stands_since = { λ l t list. StandsSince l.kind (D.left_since l.disk t) list };
+
+    ghost Image = { List ℕ };
+
+    ghost may_leave = { λ l image. D.may_leave l.disk image };
+
+    ghost stands_for = { λ l list image. StandsFor l.kind list image };
 
     fn reserve(&mut self, body: usize) -> Result<(), Memory> {
         TopicLog::reserve(self, body)

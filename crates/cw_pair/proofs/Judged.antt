@@ -83,3 +83,9 @@ compact_failed compacts.Failed F S W M is holds = holds
 compact_failed compacts.Shut F S W M is holds = cc
 compact_failed compacts.Worn F S W M is holds = cc
 compact_failed compacts.Memory F S W M is holds = cc
+
+pub compact_worn : (fault : CompactFault) (F S W M : Type 0) → fault ≡ compacts.Worn → OnCompactFault F S W M fault → W
+compact_worn compacts.Failed F S W M is holds = cc
+compact_worn compacts.Shut F S W M is holds = cc
+compact_worn compacts.Worn F S W M is holds = holds
+compact_worn compacts.Memory F S W M is holds = cc

@@ -1,5 +1,5 @@
 -- Which list two files stand for, and what keeps it.
-use Rattle.std.proofs.Common.{◌≡◌, ◌⊎◌, ◌≤◌, ◌<◌, inl, inr, ℕ, zero, suc, ◌+◌, List, [], ◌∷◌, ◌++◌, length, get_or, Option, Some, None, option_map, is_some, false, refl, sym, ◌∙◌, ap, subst, arith, length-append}
+use Rattle.std.proofs.Common.{◌≡◌, ◌⊎◌, ◌≤◌, ◌<◌, inl, inr, ℕ, zero, suc, ◌+◌, List, [], ◌∷◌, ◌++◌, length, get_or, Option, Some, None, option_map, is_some, Bool, true, false, ⊎_elim, refl, sym, ◌∙◌, ap, subst, arith, length-append}
 use Rattle.cw_log.specs.Log.{BeforeOrAfter, HasHead, IsDamaged, IsMade, IsSide, IsUnmade, StandsFor, StandAlike, BreaksAt, byte_at, harm_of_file, number_of}
 use Rattle.cw_log.specs.Compaction.{IsHeaded, HasHeadHarm, IsRegated, IsReplaced}
 use Rattle.cw_log.specs.declared.fault.Harm.{Harm}
@@ -7,7 +7,8 @@ use Rattle.cw_log.specs.declared.fault.Harm.TheVariants.{Magic, Version, Kind, H
 use Rattle.cw_log.proofs.OneReading.{stands_for_one, made_harmless, sound}
 use Rattle.cw_log.proofs.Sides.{side_same}
 use Rattle.cw_pair.specs.Pair.{IsBehind, IsFirst, IsSound, IsPairDamaged, BreaksBeside, StandsBeside, StandAlikeBeside, PairStandsFor}
-use Rattle.cw_pair.specs.State.{IsPair, told_with}
+use Rattle.cw_disk.specs.Disk.{AddsOf}
+use Rattle.cw_pair.specs.State.{IsPair, MayLeave, sides_of, told_with}
 use Rattle.cw_log.specs.State.{LogState}
 use Rattle.cw_pair.proofs.Stretches.{stands_across}
 
@@ -208,3 +209,56 @@ compact_bodies bodies None (Some beside) None same = refl
 compact_bodies bodies None (Some beside) (Some list) same = cc
 compact_bodies bodies (Some file) (Some beside) None same = cc
 compact_bodies bodies (Some file) (Some beside) (Some list) same = refl
+
+-- ---- each image that a stop leaves of both disks stands for the list before a call or behind it
+
+append_beside : (kind number : ℕ) (bodies : List (List ℕ)) (body image other : List ℕ) → BeforeOrAfter kind bodies body image → IsSide number image → IsBehind kind number other → PairStandsFor kind bodies image other ⊎ PairStandsFor kind (bodies ++ body ∷ []) image other
+append_beside kind number bodies body image other (inl stands) side behind = inl (beside kind number bodies image other stands side behind)
+append_beside kind number bodies body image other (inr stands) side behind = inr (beside kind number (bodies ++ body ∷ []) image other stands side behind)
+
+compact_beside : (kind number : ℕ) (before after : List (List ℕ)) (file image chosen : List ℕ) → IsReplaced kind (number + 1) after file image → IsBehind kind number file → StandsFor kind before chosen → IsSide number chosen → PairStandsFor kind before chosen image ⊎ PairStandsFor kind after chosen image
+compact_beside kind number before after file image chosen (inl regated) behind stands side =
+    inl (beside kind number before chosen image stands side (regated_behind kind number file image behind regated))
+compact_beside kind number before after file image chosen (inr (inl unmade)) behind stands side =
+    inl (beside kind number before chosen image stands side (inl unmade))
+compact_beside kind number before after file image chosen (inr (inr log)) behind stands side =
+    inr (stands_across kind after image chosen (beside kind (number + 1) after image chosen (inr log.made) log.side (behind_next kind number before chosen stands side)))
+
+module _ {D : Type 0} (may_leave : D → List ℕ → Type 0) where
+  -- of the chosen side beside the other one, whichever is side a
+  by_sides : (kind : ℕ) (on_b : Bool) (chosen other : D) (P Q : List (List ℕ)) → ((image next : List ℕ) → may_leave chosen image → may_leave other next → PairStandsFor kind P image next ⊎ PairStandsFor kind Q image next)
+      → (a b : List ℕ) → MayLeave may_leave (sides_of on_b chosen other) a b → PairStandsFor kind P a b ⊎ PairStandsFor kind Q a b
+  by_sides kind false chosen other P Q step a b left = step a b left.a left.b
+  by_sides kind true chosen other P Q step a b left = ⊎_elim (λ before. inl (stands_across kind P b a before)) (λ after. inr (stands_across kind Q b a after)) (step b a left.b left.a)
+
+  module _ (holds : D → Option (List ℕ)) (moment : D → ℕ) (left_since : D → ℕ → List ℕ → Type 0)
+      (counts_now : (disk : D) (t : ℕ) (image : List ℕ) → t ≤ moment disk → may_leave disk image → left_since disk t image) (only_now : (disk : D) (image : List ℕ) → left_since disk (moment disk) image → may_leave disk image) where
+    -- what a stop leaves now it might have left before, or it has Q
+    left_now : (old now : D) (Q : List ℕ → Type 0) → AddsOf moment left_since old now Q → (image : List ℕ) → may_leave now image → may_leave old image ⊎ Q image
+    left_now old now Q run image left = ⊎_elim (λ was. inl (only_now old image was)) (λ q. inr q) (run.before (moment old) image (omega arith) (counts_now now (moment old) image run.later left))
+
+    pub append_images : (old new : LogState D) (other : D) (on_b : Bool) (before : List (List ℕ)) (body file : List ℕ) → IsPair holds may_leave old other → old.shut ≡ false → old.bodies ≡ Some before → holds other ≡ Some file → new.kind ≡ old.kind
+        → ((image : List ℕ) → may_leave new.disk image → BeforeOrAfter old.kind before body image) → ((image : List ℕ) → may_leave old.disk image → IsSide old.number image) → AddsOf moment left_since old.disk new.disk (IsSide old.number)
+        → (a b : List ℕ) → MayLeave may_leave (sides_of on_b new.disk other) a b → PairStandsFor new.kind before a b ⊎ PairStandsFor new.kind (before ++ body ∷ []) a b
+    append_images old new other on_b before body file pair alive told is kind left side run a b may =
+        subst (λ (n : ℕ). PairStandsFor n before a b ⊎ PairStandsFor n (before ++ body ∷ []) a b) (sym kind)
+        (by_sides old.kind on_b new.disk other before (before ++ body ∷ []) (λ image next this that.
+        append_beside old.kind old.number before body image next (left image this)
+        (⊎_elim (λ was. side image was) (λ q. q) (left_now old.disk new.disk (IsSide old.number) run image this))
+        (left_behind holds may_leave old other file next before pair alive told is that)) a b may)
+
+    pub compact_images : (old : LogState D) (other now : D) (on_b : Bool) (before after : List (List ℕ)) (file : List ℕ) → IsPair holds may_leave old other → old.shut ≡ false → old.bodies ≡ Some before → holds other ≡ Some file
+        → ((image : List ℕ) → may_leave old.disk image → StandsFor old.kind before image) → ((image : List ℕ) → may_leave old.disk image → IsSide old.number image) → AddsOf moment left_since other now (IsReplaced old.kind (old.number + 1) after file)
+        → (a b : List ℕ) → MayLeave may_leave (sides_of on_b old.disk now) a b → PairStandsFor old.kind before a b ⊎ PairStandsFor old.kind after a b
+    compact_images old other now on_b before after file pair alive told is left side run a b may =
+        by_sides old.kind on_b old.disk now before after (λ image next this that.
+        ⊎_elim (λ was. inl (beside old.kind old.number before image next (left image this) (side image this) (left_behind holds may_leave old other file next before pair alive told is was)))
+        (λ replaced. compact_beside old.kind old.number before after file next image replaced (pair.behind alive before told file is) (left image this) (side image this))
+        (left_now other now (IsReplaced old.kind (old.number + 1) after file) run next that)) a b may
+
+    pub rest_images : (log : LogState D) (other : D) (on_b : Bool) (list : List (List ℕ)) (file : List ℕ) → IsPair holds may_leave log other → log.shut ≡ false → log.bodies ≡ Some list → holds other ≡ Some file
+        → ((image : List ℕ) → may_leave log.disk image → StandsFor log.kind list image) → ((image : List ℕ) → may_leave log.disk image → IsSide log.number image)
+        → (a b : List ℕ) → MayLeave may_leave (sides_of on_b log.disk other) a b → PairStandsFor log.kind list a b
+    rest_images log other on_b list file pair alive told is left side a b may =
+        ⊎_elim (λ stands. stands) (λ stands. stands) (by_sides log.kind on_b log.disk other list list (λ image next this that.
+        inl (beside log.kind log.number list image next (left image this) (side image this) (left_behind holds may_leave log other file next list pair alive told is that))) a b may)

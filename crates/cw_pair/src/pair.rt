@@ -1,5 +1,5 @@
 // A log on two disks.
-ghost use Rattle.std.specs.Prelude.{◌≡◌, ◌⊎◌, ◌<◌, ◌+◌, ◌-◌, ◌^◌, ◌&&◌, All, List, ℕ, Option, Some, None, false, true, [], length, IfOk, IfErr, OnOk, OnErr, MatchResult, is_some, option_map};
+ghost use Rattle.std.specs.Prelude.{◌≡◌, ◌⊎◌, ◌≤◌, ◌<◌, ◌+◌, ◌-◌, ◌^◌, ◌&&◌, All, List, ℕ, Option, Some, None, false, true, [], length, IfOk, IfErr, OnOk, OnErr, MatchResult, is_some, option_map};
 ghost use Rattle.cw_disk.specs.Disk.{AddsOf};
 ghost use Rattle.cw_disk.specs.Told.{Told};
 ghost use Rattle.cw_types.specs.Faults.{Rose};
@@ -7,7 +7,7 @@ ghost use Rattle.cw_log.specs.Log.{IsBody, OnCause, kind_of, length_of};
 ghost use Rattle.cw_log.specs.State.{FailedOn};
 ghost use Rattle.cw_log.specs.Compaction.{IsCompactable, OnCompactFault, bodies_in};
 ghost use Rattle.cw_pair.specs.Pair.{IsPairDamaged, IsRight, PairStandsFor};
-ghost use Rattle.cw_pair.specs.State.{HasSamePair, Opens, OpensPairAs, StandsSince, bodies_of, disks_of, faults_of, side_of};
+ghost use Rattle.cw_pair.specs.State.{HasSamePair, MayLeave, Opens, OpensPairAs, StandsSince, bodies_of, disks_of, faults_of, side_of};
 
 use crate::choice::choose;
 use crate::open::open_chosen;
@@ -195,12 +195,21 @@ impl<D: Disk> PairLog<D> {
         ensures kind { self.new.log.kind ≡ self.old.log.kind }
         ensures limit { self.new.log.limit ≡ self.old.log.limit }
         ensures told { is_some (bodies_of D.Disk self.new) ≡ is_some (bodies_of D.Disk self.old) }
+        ensures later { (side : ℕ) →
+            faults_of D.Disk (disks_of self.old) side ≤ faults_of D.Disk (disks_of self.new) side }
 
         // A stop at any moment of the call leaves the list before or after.
         ensures any_moment { self.old.log.shut ≡ false → (before : List (List ℕ)) →
             bodies_of D.Disk self.old ≡ Some before →
             AddsOf (λ pair. length pair.past) (StandsSince D.Disk) self.old self.new
             (λ list. (list ≡ before) ⊎ (list ≡ bodies_in bodies.now.items)) }
+
+        // What it leaves now, whichever of the two images, stands for one of them.
+        ensures left { self.old.log.shut ≡ false → (before : List (List ℕ)) →
+            bodies_of D.Disk self.old ≡ Some before → (image_a image_b : List ℕ) →
+            MayLeave D.may_leave (disks_of self.new) image_a image_b →
+            PairStandsFor self.old.log.kind before image_a image_b ⊎
+            PairStandsFor self.old.log.kind (bodies_in bodies.now.items) image_a image_b }
     {
         let past = self.past.and(&self.two);
         self.two.log.rest();

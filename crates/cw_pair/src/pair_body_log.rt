@@ -4,8 +4,9 @@ use cw_disk::{Disk, Memory};
 use cw_log::{AppendFault, BodyLog, ReadFault};
 
 impl<D: Disk> BodyLog for PairLog<D> {
-    ghost use Rattle.std.specs.Prelude.{length};
-    ghost use Rattle.cw_pair.specs.State.{StandsSince, bodies_of, disks_of, faults_of};
+    ghost use Rattle.std.specs.Prelude.{ℕ, List, length};
+    ghost use Rattle.cw_pair.specs.Pair.{PairStandsFor};
+    ghost use Rattle.cw_pair.specs.State.{MayLeave, StandsSince, bodies_of, disks_of, faults_of};
 
     ghost bodies = { λ p. bodies_of D.Disk p };
 
@@ -14,6 +15,8 @@ impl<D: Disk> BodyLog for PairLog<D> {
     ghost bytes = { λ p. p.log.length };
 
     ghost limit = { λ p. p.log.limit };
+
+    ghost number = { λ p. p.log.number };
 
     ghost ready = { λ p. p.log.ready };
 
@@ -26,6 +29,12 @@ impl<D: Disk> BodyLog for PairLog<D> {
     ghost moment = { λ p. length p.past };
 
     ghost stands_since = { λ p t list. StandsSince D.Disk p t list };
+
+    ghost Image = { List ℕ × List ℕ };
+
+    ghost may_leave = { λ p image. MayLeave D.may_leave (disks_of p) image.0 image.1 };
+
+    ghost stands_for = { λ p list image. PairStandsFor p.log.kind list image.0 image.1 };
 
     fn reserve(&mut self, body: usize) -> Result<(), Memory> {
         self.past = self.past.and(&self.two);

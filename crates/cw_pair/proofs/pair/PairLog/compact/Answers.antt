@@ -1,9 +1,9 @@
 use Rattle.std.proofs.Common.{◌≡◌, ◌⊎◌, ◌∙◌, ◌+◌, ℕ, Some, not, sym, ap, subst, map}
 use Rattle.cw_log.specs.Compaction.{IsReplaced, bodies_in}
 use Rattle.cw_pair.specs.Pair.{IsBehind}
-use Rattle.cw_pair.specs.State.{IsPair, sides_of}
-use Rattle.cw_pair.proofs.Judged.{compact_failed, compact_memory, told_from}
-use Rattle.cw_pair.proofs.Pairs.{behind_next, compact_list, pair_read, told_both}
+use Rattle.cw_pair.specs.State.{IsPair, MayLeave, sides_of}
+use Rattle.cw_pair.proofs.Judged.{compact_failed, compact_memory, compact_worn, told_from}
+use Rattle.cw_pair.proofs.Pairs.{behind_next, compact_images, compact_list, pair_read, told_both}
 use Rattle.cw_pair.proofs.Stretches.{failed_other, other_adds, pair_of, past_pushed, sides_swapped}
 use Rattle.cw_pair.proofs.pair.PairLog.compact.Goals as goal
 
@@ -71,3 +71,42 @@ returns-in-Err-Failed-clause-fault g c = rw (← c.self.view_is) (
     let two = c.self.inside.two in
     let found = compact_failed c.in-Err-Failed.field-0 _ _ _ _ c.in-Err-Failed.field-0-is c.in-Err-Failed.ensures.fault in
     (found.0, found.1, failed_other g.D.Disk.count two.on_b two.log.disk two.other c.compact_onto.new.self.disk c.compact_onto.new.other c.other_faults.result c.other_faults.ensures found.2))
+
+pub returns-in-Ok-clause-left : goal.returns-in-Ok-clause-left
+returns-in-Ok-clause-left g c = rw (← c.self.view_is) (λ alive before told a b left.
+    let two = c.self.inside.two in
+    let both = told_both (g.D.Disk.holds two.other) two.log.bodies before told in
+    compact_images g.D.Disk.may_leave g.D.Disk.holds g.D.Disk.moment g.D.Disk.left_since g.met.D.Disk.counts_now g.met.D.Disk.only_now
+    two.log two.other c.compact_onto.new.self.disk two.on_b before (bodies_in c.args.bodies.now.items) both.0 c.self.invariant alive both.2 both.1 (c.rest.ensures.left alive before both.2)
+    (c.rest.ensures.side alive before both.2) (c.in-Ok.ensures.any_moment alive both.0 both.1) a b
+    (subst (λ disks. MayLeave g.D.Disk.may_leave disks a b) (ap (sides_of (not two.on_b) c.compact_onto.new.self.disk) c.in-Ok.ensures.other ∙ sym (sides_swapped two.on_b two.log.disk c.compact_onto.new.self.disk)) left))
+
+pub returns-in-Err-Memory-clause-left : goal.returns-in-Err-Memory-clause-left
+returns-in-Err-Memory-clause-left g c = rw (← c.self.view_is) (λ alive before told a b left.
+    let two = c.self.inside.two in
+    let both = told_both (g.D.Disk.holds two.other) two.log.bodies before told in
+    let found = compact_memory c.in-Err-Memory.field-0 _ _ _ _ c.in-Err-Memory.field-0-is c.in-Err-Memory.ensures.fault in
+    compact_images g.D.Disk.may_leave g.D.Disk.holds g.D.Disk.moment g.D.Disk.left_since g.met.D.Disk.counts_now g.met.D.Disk.only_now
+    two.log two.other c.compact_onto.new.other two.on_b before (bodies_in c.args.bodies.now.items) both.0 c.self.invariant alive both.2 both.1 (c.rest.ensures.left alive before both.2)
+    (c.rest.ensures.side alive before both.2) (c.in-Err-Memory.ensures.any_moment alive both.0 both.1) a b
+    (subst (λ disks. MayLeave g.D.Disk.may_leave disks a b) (ap (λ log. sides_of two.on_b log.disk c.compact_onto.new.other) found.1) left))
+
+pub returns-in-Err-Failed-clause-left : goal.returns-in-Err-Failed-clause-left
+returns-in-Err-Failed-clause-left g c = rw (← c.self.view_is) (λ alive before told a b left.
+    let two = c.self.inside.two in
+    let both = told_both (g.D.Disk.holds two.other) two.log.bodies before told in
+    let found = compact_failed c.in-Err-Failed.field-0 _ _ _ _ c.in-Err-Failed.field-0-is c.in-Err-Failed.ensures.fault in
+    compact_images g.D.Disk.may_leave g.D.Disk.holds g.D.Disk.moment g.D.Disk.left_since g.met.D.Disk.counts_now g.met.D.Disk.only_now
+    two.log two.other c.compact_onto.new.other two.on_b before (bodies_in c.args.bodies.now.items) both.0 c.self.invariant alive both.2 both.1 (c.rest.ensures.left alive before both.2)
+    (c.rest.ensures.side alive before both.2) (c.in-Err-Failed.ensures.any_moment alive both.0 both.1) a b
+    (subst (λ disks. MayLeave g.D.Disk.may_leave disks a b) (ap (λ log. sides_of two.on_b log.disk c.compact_onto.new.other) found.1) left))
+
+pub returns-in-Err-Worn-clause-left : goal.returns-in-Err-Worn-clause-left
+returns-in-Err-Worn-clause-left g c = rw (← c.self.view_is) (λ alive before told a b left.
+    let two = c.self.inside.two in
+    let both = told_both (g.D.Disk.holds two.other) two.log.bodies before told in
+    let found = compact_worn c.in-Err-Worn.field-0 _ _ _ _ c.in-Err-Worn.field-0-is c.in-Err-Worn.ensures.fault in
+    compact_images g.D.Disk.may_leave g.D.Disk.holds g.D.Disk.moment g.D.Disk.left_since g.met.D.Disk.counts_now g.met.D.Disk.only_now
+    two.log two.other c.compact_onto.new.other two.on_b before (bodies_in c.args.bodies.now.items) both.0 c.self.invariant alive both.2 both.1 (c.rest.ensures.left alive before both.2)
+    (c.rest.ensures.side alive before both.2) (c.in-Err-Worn.ensures.any_moment alive both.0 both.1) a b
+    (subst (λ disks. MayLeave g.D.Disk.may_leave disks a b) (ap (λ log. sides_of two.on_b log.disk c.compact_onto.new.other) found.2) left))
