@@ -1,5 +1,6 @@
 //! The feeds that sources read.
-ghost use Rattle.std.specs.Prelude.{◌≡◌, ◌≤◌, ◌<◌, ◌++◌, ◌∷◌, [], ◌↔◌, map, Some, IfOk, OnOk, IsTrue};
+ghost use Rattle.std.specs.Prelude.{◌≡◌, ◌≤◌, ◌<◌, ◌^◌, ◌++◌, ◌∷◌, [], ◌↔◌, length, map, Some, IfOk, OnOk, IsTrue};
+ghost use Rattle.std.specs.List.{AllByRecursion};
 ghost use Rattle.cw_types.specs.Faults.{Rose};
 ghost use Rattle.cw_io.specs.Shelf.{Files, names_of, AreRising};
 ghost use Rattle.cw_feed.specs.Feeds.{feed_of, IsOfSource};
@@ -60,6 +61,15 @@ impl Feeds {
         ensures rising { AreRising (names_of self.now) }
     {
         self.names.as_slice()
+    }
+
+    /// The law of every feed: its length fits into 64 bits. It does nothing but look at each.
+    pub fn are_short(&self)
+        ensures { AllByRecursion (λ feed. length feed.1 < 2 ^ 64) self.now }
+    {
+        for content in &self.contents {
+            let _ = content.as_slice().len();
+        }
     }
 
     /// Where a poll of a part cuts that begins at `from` and takes at most `max` records. A sequence has
