@@ -1,4 +1,4 @@
--- What clauses see of the source, the sink, the link and the shelf in memory.
+-- What clauses see of the source, the sink, the link, the shelf and the outlet in memory.
 use Rattle.std.specs.Prelude.{◌<◌, ◌+◌, ℕ, List, Bool, true, false, length, min, Result, Ok, Err}
 use Rattle.cw_io.specs.Shelf.{Files}
 use Rattle.cw_io.specs.Calls.{Calls}

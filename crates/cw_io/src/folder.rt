@@ -112,13 +112,21 @@ fn is_file(system: &impl Files, path: Path) -> io::Result<bool> {
     }
 }
 
-// The bytes of the file of this name in a folder. A name with a slash would lead out of it.
+// The bytes of the file of this name in a folder.
 fn read_file<R: Files + AllocGlobal>(system: &R, folder: &str, name: &Name) -> io::Result<Vec<u8>> {
+    fs::read(system, path_in(system, folder, name)?)
+}
+
+// Where the file of this name lies in a folder. A name with a slash would lead out of it.
+pub(crate) fn path_in<R>(system: &R, folder: &str, name: &Name) -> io::Result<String>
+where
+    R: Files + AllocGlobal,
+{
     let Ok(name) = str::from_utf8(name.as_bytes()) else {
         return Err(Error::from(ErrorKind::InvalidFilename));
     };
     if name.contains('/') {
         return Err(Error::from(ErrorKind::InvalidFilename));
     }
-    fs::read(system, format!(in system.alloc(); "{folder}/{name}")?)
+    Ok(format!(in system.alloc(); "{folder}/{name}")?)
 }

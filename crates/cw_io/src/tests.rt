@@ -1,8 +1,8 @@
 //! Objects in memory fail on demand; the adapters pass bytes on.
 
 use crate::{
-    Failed, FolderShelf, Link, MemLink, MemSink, MemSource, ReaderSource, Shelf, ShelfFault, Sink,
-    Source, TcpLink, WriterSink, send_all, write_all,
+    Failed, FolderOutlet, FolderShelf, Link, MemLink, MemOutlet, MemSource, Outlet, ReaderSource,
+    Shelf, ShelfFault, Source, TcpLink, WriterSink, send_all, write_all,
 };
 use cw_types::Name;
 use std::fs;
@@ -17,9 +17,12 @@ fn what_is_in_memory_fails_where_told(rt: HostRuntime) -> Result<(), Fail> {
     assert_eq!(rt; source.read(&mut piece), Err(Failed));
     assert_eq!(rt; source.read(&mut piece), Ok(1));
     assert_eq!(rt; piece, *b"cb\0\0");
-    let mut sink = MemSink::with_room(rt.alloc(), 4, 2, vec![in rt.alloc(); 2u64]?)?;
-    assert_eq!(rt; write_all(&mut sink, b"abcde"), Err(Failed));
-    assert_eq!(rt; sink.bytes(), b"abcd".as_slice());
+    let name = Name::read(rt.alloc(), b"lines")?;
+    let mut outlet = MemOutlet::new(rt.alloc(), vec![in rt.alloc(); 1u64]?);
+    assert_eq!(rt; outlet.append(&name, b"ab"), Ok(()));
+    assert_eq!(rt; outlet.append(&name, b"cd"), Err(Failed));
+    assert_eq!(rt; outlet.append(&name, b"ef"), Ok(()));
+    assert_eq!(rt; outlet.file(&name), Some(b"ab\ncef\n".as_slice()));
     Ok(())
 }
 
@@ -31,7 +34,6 @@ fn a_link_in_memory_fails_in_mid_stream(rt: HostRuntime) -> Result<(), Fail> {
     assert_eq!(rt; link.read(&mut piece), Ok(2));
     assert_eq!(rt; send_all(&mut link, b"vwxyz"), Err(Failed));
     assert_eq!(rt; link.written(), b"vwxy".as_slice());
-    assert_eq!(rt; link.faults(), 1);
     assert_eq!(rt; link.read(&mut piece), Ok(1));
     assert_eq!(rt; link.read(&mut piece), Ok(0));
     Ok(())
@@ -40,16 +42,12 @@ fn a_link_in_memory_fails_in_mid_stream(rt: HostRuntime) -> Result<(), Fail> {
 #[test]
 fn the_adapters_pass_bytes_on(rt: HostRuntime) -> Result<(), Fail> {
     let mut piece = [0u8; 2];
-    assert_eq!(rt;
-        ReaderSource::new(b"abc".as_slice()).read(&mut piece),
-        Ok(2)
-    );
+    let mut reader = ReaderSource::new(b"abc".as_slice());
+    assert_eq!(rt; reader.read(&mut piece), Ok(2));
     assert_eq!(rt; piece, *b"ab");
     let mut written = Vec::new(rt.alloc());
-    assert_eq!(rt;
-        write_all(&mut WriterSink::new(&mut written), b"xyz"),
-        Ok(())
-    );
+    let mut writer = WriterSink::new(&mut written);
+    assert_eq!(rt; write_all(&mut writer, b"xyz"), Ok(()));
     assert_eq!(rt; written.as_slice(), b"xyz".as_slice());
     let listener = TcpListener::bind(&rt, "127.0.0.1:0")?;
     let mut near = TcpLink::new(TcpStream::connect(&rt, listener.local_addr()?)?);
@@ -61,16 +59,22 @@ fn the_adapters_pass_bytes_on(rt: HostRuntime) -> Result<(), Fail> {
 }
 
 #[test]
-fn a_folder_is_a_shelf_of_its_files_that_have_names(rt: HostRuntime) -> Result<(), Fail> {
-    fs::create_dir_all(&rt, "feeds-of-a-test/folder")?;
+fn a_folder_keeps_lines_and_is_a_shelf_of_files_that_have_names(
+    rt: HostRuntime,
+) -> Result<(), Fail> {
+    let name = Name::read(rt.alloc(), b"b")?;
+    let mut outlet = FolderOutlet::new(&rt, "feeds-of-a-test");
+    assert_eq!(rt; outlet.append(&name, b"x"), Ok(()));
+    assert_eq!(rt; outlet.append(&name, b"y"), Ok(()));
+    fs::create_dir(&rt, "feeds-of-a-test/folder")?;
     fs::write(&rt, "feeds-of-a-test/no name", "a")?;
-    fs::write(&rt, "feeds-of-a-test/b", "b")?;
     let mut shelf = FolderShelf::new(&rt, "feeds-of-a-test");
     let names = shelf.names()?;
     assert_eq!(rt; names.len(), 1);
-    assert_eq!(rt; shelf.load(&names[0])?.as_slice(), b"b".as_slice());
+    assert_eq!(rt; shelf.load(&names[0])?.as_slice(), b"x\ny\n".as_slice());
     let outside = Name::read(rt.alloc(), b"folder/../b")?;
     assert!(rt; shelf.load(&outside) == Err(ShelfFault::Failed));
+    assert_eq!(rt; outlet.append(&outside, b"z"), Err(Failed));
     fs::remove_dir_all(&rt, "feeds-of-a-test")?;
     Ok(())
 }

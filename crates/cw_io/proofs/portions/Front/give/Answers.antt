@@ -1,4 +1,4 @@
-use Rattle.std.proofs.Common.{sym, ap, ◌∙◌, arith}
+use Rattle.std.proofs.Common.{sym, ◌∙◌, arith}
 use Rattle.cw_io.proofs.Pieces.{left_behind}
 use Rattle.cw_io.proofs.portions.Front.give.Goals as goal
 
