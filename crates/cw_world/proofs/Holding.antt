@@ -13,7 +13,7 @@ use Rattle.cw_model.specs.StandsFor.{Stored}
 use Rattle.cw_model.specs.Reopening.{stored_of}
 use Rattle.cw_rows.specs.Kept.{HasSameLogs}
 use Rattle.cw_rows.specs.Writes.{bytes_in, with_body}
-use Rattle.cw_world.specs.Logs.{LogsState, LogView, HoldsList, Holds, HoldAll, HaveSameOthers, HasSameBodies, AddsTo, view_in, list_in}
+use Rattle.cw_world.specs.Logs.{LogsState, LogView, HoldsList, Holds, HoldAll, HaveSameOthers, HasSameBodies, AddsTo, LeavesNow, view_in, list_in}
 use Rattle.cw_world.specs.Write.{HasBody}
 
 -- what is stored of all logs but this one is the same
@@ -177,3 +177,10 @@ module _ {D : Type 0} (G : Ghosts D) where
   less-added Status old new P Q adds weaker = adds_weaker (λ (pair : PairState D). length pair.past) (PairLeaves G) old.status new.status P Q adds weaker
   less-added Txn old new P Q adds weaker = adds_weaker (λ (log : LogState D). G.moment log.disk) (λ (log : LogState D) t list. StandsSince log.kind (G.left_since log.disk t) list) old.txn new.txn P Q adds weaker
   less-added Batches old new P Q adds weaker = adds_weaker (λ (log : LogState D). G.moment log.disk) (λ (log : LogState D) t list. StandsSince log.kind (G.left_since log.disk t) list) old.batches new.batches P Q adds weaker
+
+  pub less-left : (name : LogName) (logs : LogsState D) (P Q : List (List ℕ) → Type 0) → LeavesNow G name logs P → ((list : List (List ℕ)) → P list → Q list) → LeavesNow G name logs Q
+  less-left Config logs P Q leaves weaker = λ image may. let found = leaves image may in (found.0, weaker found.0 found.1, found.2)
+  less-left Offsets logs P Q leaves weaker = λ image may. let found = leaves image may in (found.0, weaker found.0 found.1, found.2)
+  less-left Status logs P Q leaves weaker = λ image may. let found = leaves image may in (found.0, weaker found.0 found.1, found.2)
+  less-left Txn logs P Q leaves weaker = λ image may. let found = leaves image may in (found.0, weaker found.0 found.1, found.2)
+  less-left Batches logs P Q leaves weaker = λ image may. let found = leaves image may in (found.0, weaker found.0 found.1, found.2)

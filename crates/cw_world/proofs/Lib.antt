@@ -7,3 +7,4 @@ pub mod Configs
 pub mod Ended
 pub mod OwnOffsets
 pub mod Acting
+pub mod Breaking

@@ -15,10 +15,10 @@ use Rattle.cw_laws.specs.Laws.{Keeps}
 use Rattle.cw_laws.proofs.Clock.{closes-keeps}
 use Rattle.cw_rows.specs.Kept.{Kept}
 use Rattle.cw_rows.specs.Writes.{Readies, Refuses, Puts, bytes_in, with_body}
-use Rattle.cw_world.specs.Logs.{LogsState, LogView, IsOpenLog, HoldAll, HaveSameOthers, HasSameBodies, AddsTo, view_in, list_in, faults_in}
+use Rattle.cw_world.specs.Logs.{LogsState, LogView, IsOpenLog, HoldAll, HaveSameOthers, HasSameBodies, AddsTo, LeavesNow, view_in, list_in, faults_in}
 use Rattle.cw_world.specs.Write.{IsWrite, IsFull}
 use Rattle.cw_world.specs.World.{WorldState, IsWorld, Writes}
-use Rattle.cw_world.proofs.Holding.{same-others, body-others, hold-behind, holds-same, holds-more, list-with, bytes-are, stored-same, nothing-added, less-added}
+use Rattle.cw_world.proofs.Holding.{same-others, body-others, hold-behind, holds-same, holds-more, list-with, bytes-are, stored-same, nothing-added, less-added, less-left}
 
 -- the world of a cluster and its logs
 abbrev pub world : {D : Type 0} → Book → Kept → LogsState D → WorldState D
@@ -114,6 +114,18 @@ module _ {D : Type 0} (G : Ghosts D) {A : Type 0} (event : Cluster → Answer A)
         (λ (q : (has_room (bytes_in name mid.state) (frame_of body) ≡ true) × (left ≡ told ++ body ∷ [])).
         inr (q.1 ∙ ap (λ (l : List (List ℕ)). l ++ body ∷ []) told-is ∙ list-behind (moved-room true q.0))) p)
 
+    -- what it leaves now
+    left-of : (told : List (List ℕ)) → (view_in G name old_logs).bodies ≡ Some told → has_room (bytes_in name old.state) (frame_of body) ≡ true →
+        LeavesNow G name new_logs (λ left. (left ≡ told) ⊎ (left ≡ told ++ body ∷ [])) →
+        LeavesNow G name new_logs (λ list. (list ≡ list_in name (stored_of old.state)) ⊎ (list ≡ list_in name (stored_of (event old.state).1)))
+    left-of told is room leaves =
+        let list = list_in name (stored_of old.state) in
+        let told-is : told ≡ list = (holds-old name).told told is in
+        less-left G name new_logs (λ left. (left ≡ told) ⊎ (left ≡ told ++ body ∷ []))
+        (λ left. (left ≡ list) ⊎ (left ≡ list_in name (stored_of (event old.state).1))) leaves
+        (λ left p. ⊎_elim (λ (e : left ≡ told). inl (e ∙ told-is))
+        (λ (e : left ≡ told ++ body ∷ []). inr (e ∙ ap (λ (l : List (List ℕ)). l ++ body ∷ []) told-is ∙ list-behind room)) p)
+
     -- nothing has changed but how far the log is read, or its room
     stays : after ≡ mid → HasSameBodies (view_in G name old_logs) (view_in G name new_logs) → (view_in G name new_logs).shut ≡ (view_in G name old_logs).shut →
         IsWorld G after.setting after.state new_logs
@@ -137,7 +149,7 @@ module _ {D : Type 0} (G : Ghosts D) {A : Type 0} (event : Cluster → Answer A)
         rw (full.log_is, size-is, full.frame_is, state-is full.kept) (ready.due.full (moved-room false full.none))
 
     pub not-written : (fault : WorldFault) → IsWrite name body (view_in G name old_logs) (view_in G name new_logs) (faults_in G name old_logs) (faults_in G name new_logs)
-        (AddsTo G name old_logs new_logs) mid after (Err fault) → Comes G name event old old_logs after new_logs (Err fault)
+        (AddsTo G name old_logs new_logs) (LeavesNow G name new_logs) mid after (Err fault) → Comes G name event old old_logs after new_logs (Err fault)
     not-written (Full log size frame) w = (
       λ called. record {
         name = refl;
@@ -173,6 +185,7 @@ module _ {D : Type 0} (G : Ghosts D) {A : Type 0} (event : Cluster → Answer A)
               state = state;
               fails = w.answer.fails;
               same = w.answer.same;
+              left = λ told is. left-of told is (moved-room true w.answer.room) (w.answer.left told is);
             }));
             setting = setting;
             others = others;
@@ -192,7 +205,7 @@ module _ {D : Type 0} (G : Ghosts D) {A : Type 0} (event : Cluster → Answer A)
 
     pub written : (new : Kept) (answer : A) → Keeps old.setting old.state (event old.state) →
         IsWrite name body (view_in G name old_logs) (view_in G name new_logs) (faults_in G name old_logs) (faults_in G name new_logs)
-        (AddsTo G name old_logs new_logs) mid after (Ok tt) → Puts event answer after new → Comes G name event old old_logs new new_logs (Ok answer)
+        (AddsTo G name old_logs new_logs) (LeavesNow G name new_logs) mid after (Ok tt) → Puts event answer after new → Comes G name event old old_logs new new_logs (Ok answer)
     written new answer law w put =
         let row : event old.state ≡ (Ok answer, new.state) = ap event (sym (state-is w.answer.kept)) ∙ put.row in
         let setting : new.setting ≡ old.setting = put.setting ∙ setting-is w.answer.kept in

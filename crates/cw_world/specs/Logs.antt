@@ -8,9 +8,10 @@ use Rattle.cw_types.specs.declared.logs.DiskName.TheVariants as disk
 use Rattle.cw_disk.specs.declared.device.Disk.{Ghosts}
 use Rattle.cw_disk.specs.Disk.{AddsOf}
 use Rattle.cw_log.specs.declared.body_log.BodyLog as bodylog
-use Rattle.cw_log.specs.Log.{length_of}
+use Rattle.cw_log.specs.Log.{StandsFor, length_of}
 use Rattle.cw_log.specs.State.{LogState, StandsSince}
-use Rattle.cw_pair.specs.State.{PairState, StandsSince as PairLeaves, bodies_of, disks_of, faults_of}
+use Rattle.cw_pair.specs.Pair.{PairStandsFor}
+use Rattle.cw_pair.specs.State.{PairState, MayLeave, StandsSince as PairLeaves, bodies_of, disks_of, faults_of}
 use Rattle.cw_model.specs.StandsFor.{Stored}
 use Rattle.cw_model.specs.Bodies.{most_log}
 
@@ -129,6 +130,23 @@ LeavesOne D Txn since now list =
     StandsSince now.txn.kind (D.left_since now.txn.disk (D.moment since.txn.disk)) list
 LeavesOne D Batches since now list =
     StandsSince now.batches.kind (D.left_since now.batches.disk (D.moment since.batches.disk)) list
+
+-- whichever image a stop now leaves of the disks of a log, it stands for a list that has P
+abbrev pub PairLeavesNow : {D : Type 0} → Ghosts D → PairState D → (List (List ℕ) → Type 0) → Type 0
+PairLeavesNow D pair P = (image : List ℕ × List ℕ) → MayLeave D.may_leave (disks_of pair) image.0 image.1 →
+    (list : List (List ℕ)) × P list × PairStandsFor pair.log.kind list image.0 image.1
+
+abbrev pub TopicLeavesNow : {D : Type 0} → Ghosts D → LogState D → (List (List ℕ) → Type 0) → Type 0
+TopicLeavesNow D log P = (image : List ℕ) → D.may_leave log.disk image →
+    (list : List (List ℕ)) × P list × StandsFor log.kind list image
+
+-- the same of the log of a name
+abbrev pub LeavesNow : {D : Type 0} → Ghosts D → LogName → LogsState D → (List (List ℕ) → Type 0) → Type 0
+LeavesNow D Config logs P = PairLeavesNow D logs.config P
+LeavesNow D Offsets logs P = PairLeavesNow D logs.offsets P
+LeavesNow D Status logs P = PairLeavesNow D logs.status P
+LeavesNow D Txn logs P = TopicLeavesNow D logs.txn P
+LeavesNow D Batches logs P = TopicLeavesNow D logs.batches P
 
 -- ---- their disks
 

@@ -10,7 +10,7 @@ use Rattle.cw_model.specs.State.{Setting, Cluster}
 use Rattle.cw_model.specs.Answers.{Answer}
 use Rattle.cw_model.specs.Facts.{AreFacts}
 use Rattle.cw_model.specs.Reopening.{stored_of, closed_by}
-use Rattle.cw_world.specs.Logs.{LogsState, HoldAll, HaveSameOthers, HasSameBodies, AddsTo, view_in, list_in, faults_in}
+use Rattle.cw_world.specs.Logs.{LogsState, HoldAll, HaveSameOthers, HasSameBodies, AddsTo, LeavesNow, view_in, list_in, faults_in}
 use Rattle.cw_world.specs.Write.{FailsOn}
 
 -- the state, what stays the same, the logs, and which world it is
@@ -53,7 +53,9 @@ pub record RunsOut {D A : Type 0} (G : Ghosts D) (log : LogName) (old new : Worl
   pub state : new.state ≡ old.state
   pub same : HasSameBodies (view_in G log old.logs) (view_in G log new.logs)
 
--- a disk of the log failed where the event would have been done: its count rose in this call, and all writing has ended
+-- A disk of the log failed where the event would have been done: its count rose in this call, and all writing has
+-- ended. Whichever image a stop leaves of the log's disks, it stands for the list before the event or the one behind
+-- it.
 pub record Breaks {D A : Type 0} (G : Ghosts D) (log : LogName) (event : Cluster → Answer A) (old new : WorldState D)
     (result : Result A WorldFault) : Type 0 where
   pub disk : DiskName
@@ -64,6 +66,9 @@ pub record Breaks {D A : Type 0} (G : Ghosts D) (log : LogName) (event : Cluster
   pub state : new.state ≡ closed_by disk count old.state
   pub fails : FailsOn log (faults_in G log old.logs) (faults_in G log new.logs) disk count
   pub same : HasSameBodies (view_in G log old.logs) (view_in G log new.logs)
+  pub left : (told : List (List ℕ)) → (view_in G log old.logs).bodies ≡ Some told →
+      LeavesNow G log new.logs (λ list. (list ≡ list_in log (stored_of old.state)) ⊎
+      (list ≡ list_in log (stored_of (event old.state).1)))
 
 -- The event is done, or is refused, just as the model says; or memory is wanting, or a disk failed. No other log
 -- changes, and of its own a stop at any moment of the call leaves the list before the event or the one behind it.

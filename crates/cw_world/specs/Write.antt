@@ -65,24 +65,26 @@ pub record IsWanting (old new : LogView) (before after : Kept) : Type 0 where
   pub shut : new.shut ≡ old.shut
   pub kept : after ≡ before
 
--- a disk failed, and all writing has ended
+-- a disk failed, and all writing has ended; whichever image is left stands for the list before or the one with the body
 pub record IsBroken (name : LogName) (body : List ℕ) (old new : LogView) (faults_old faults_new : ℕ → ℕ)
-    (before after : Kept) (disk : DiskName) (count : ℕ) : Type 0 where
+    (leaves_now : (List (List ℕ) → Type 0) → Type 0) (before after : Kept) (disk : DiskName) (count : ℕ) : Type 0 where
   pub room : has_room (bytes_in name before.state) (frame_of body) ≡ true
   pub fails : FailsOn name faults_old faults_new disk count
   pub same : HasSameBodies old new
   pub state : after.state ≡ closed_by disk count before.state
   pub setting : after.setting ≡ before.setting
+  pub left : (list : List (List ℕ)) → old.bodies ≡ Some list →
+      leaves_now (λ left. (left ≡ list) ⊎ (left ≡ list ++ body ∷ []))
 
 -- one write of a body to the log of a name, between what the log told before and now, and the cluster; a stop at any
 -- moment of it adds only the list before, or, where there was room, the one with the body
 pub record IsWrite (name : LogName) (body : List ℕ) (old new : LogView) (faults_old faults_new : ℕ → ℕ)
-    (adds : (List (List ℕ) → Type 0) → Type 0) (before after : Kept) (result : Result (Unit {0}) WorldFault)
+    (adds leaves_now : (List (List ℕ) → Type 0) → Type 0) (before after : Kept) (result : Result (Unit {0}) WorldFault)
     : Type 0 where
   pub answer : MatchResult result (λ done. IsAppended name body old new before after) (OnWriteFault
       (IsFull name body old new before after)
       (IsWanting old new before after)
-      (IsBroken name body old new faults_old faults_new before after))
+      (IsBroken name body old new faults_old faults_new leaves_now before after))
   pub leaves : (list : List (List ℕ)) → old.bodies ≡ Some list →
       adds (λ left. (left ≡ list) ⊎
       ((has_room (bytes_in name before.state) (frame_of body) ≡ true) × (left ≡ list ++ body ∷ [])))

@@ -1,5 +1,5 @@
 //! The one write to a log that all events make.
-ghost use Rattle.std.specs.Prelude.{◌≡◌, ◌≤◌, length};
+ghost use Rattle.std.specs.Prelude.{◌≡◌, ◌≤◌, ℕ, List, length};
 ghost use Rattle.cw_disk.specs.Disk.{AddsOf};
 ghost use Rattle.cw_rows.specs.Writes.{bytes_in};
 ghost use Rattle.cw_world.specs.Logs.{IsOpenLog, disk_of, view_of};
@@ -25,6 +25,8 @@ pub(crate) fn write<L: BodyLog>(
     requires ready { IsOpenLog (bytes_in name cluster.old.state) (view_of L.BodyLog log.old) }
     ensures { IsWrite name body.now (view_of L.BodyLog log.old) (view_of L.BodyLog log.new)
         (L.faults log.old) (L.faults log.new) (AddsOf L.moment L.stands_since log.old log.new)
+        (λ P. (image : L.Image) → L.may_leave log.new image →
+        (list : List (List ℕ)) × P list × L.stands_for log.new list image)
         cluster.old cluster.new result }
 {
     if body.len() > MOST {
