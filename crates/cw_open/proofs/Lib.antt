@@ -22,3 +22,6 @@ pub mod CauseLemmas
 pub mod ContentLemmas
 pub mod AgreeLemmas
 pub mod JudgedLemmas
+pub mod LeavingLemmas
+pub mod ReopenLemmas
+pub mod StayLemmas

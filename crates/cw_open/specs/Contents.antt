@@ -11,6 +11,7 @@ use Rattle.cw_txn.specs.BodyReading.{entries_at}
 use Rattle.cw_model.specs.StandsFor.{Stored, Frames, AreRead, IsFirstOf, reading_of}
 use Rattle.cw_log.specs.Log.{kind_of}
 use Rattle.cw_pair.specs.Pair.{IsRight}
+use Rattle.cw_world.specs.Logs.{LogsState, logs_of}
 use Rattle.cw_open.specs.FoundFrames.{AreGates, IsFoundIn, StandsAt}
 use Rattle.cw_open.specs.OpenedLogs.{IsReadPair, IsReadTopic}
 use Rattle.cw_open.specs.Reopened.{DiskFiles, FilesHold}
@@ -56,6 +57,10 @@ pub record AreReadLogs {D : Type 0} (G : Ghosts D) (logs : ReadLogs D) : Type 0 
   pub status : IsReadPair records_at G logs.status.found logs.status.log
   pub txn : IsReadTopic entries_at logs.txn.found logs.txn.log
   pub batches : IsReadTopic data_at logs.batches.found logs.batches.log
+
+-- the logs themselves
+abbrev pub logs_read : {D : Type 0} → ReadLogs D → LogsState D
+logs_read logs = logs_of logs.config.log logs.offsets.log logs.status.log logs.txn.log logs.batches.log
 
 -- the frames that were found
 abbrev pub frames_of : {D : Type 0} → ReadLogs D → Frames

@@ -14,3 +14,6 @@ pub mod OpenedLogs
 pub mod Reopened
 pub mod Contents
 pub mod Judged
+pub mod Opened
+pub mod OpenedFrom
+pub mod Leaving

@@ -11,6 +11,7 @@ use Rattle.cw_pair.specs.Pair.{IsRight, PairStandsFor}
 use Rattle.cw_pair.specs.State.{PairState, bodies_of}
 use Rattle.cw_model.specs.Bodies.{most_log}
 use Rattle.cw_open.specs.FoundFrames.{FoundState, IsFoundIn}
+use Rattle.cw_open.specs.OpenedFrom.{IsPairFrom, IsTopicFrom}
 use Rattle.cw_open.specs.declared.opening.OpenedPair.{OpenedPair}
 use Rattle.cw_open.specs.declared.opening.OpenedTopic.{OpenedTopic}
 
@@ -65,9 +66,11 @@ pub record OpensPair {A D : Type 0} (at : Unread → Read A) (G : Ghosts D) (nam
       HasPairFound at (kind_of name) opened.log.log.number opened.found file_a file_b
   pub side : (file_a file_b : List ℕ) → G.holds a ≡ Some file_a → G.holds b ≡ Some file_b →
       IsRight (kind_of name) opened.log.on_b file_a file_b
+  pub from : IsPairFrom G name a b opened.log
 
 -- a disk was
 pub record OpensTopic {A D : Type 0} (at : Unread → Read A) (G : Ghosts D) (name : LogName) (disk : D)
     (opened : OpenedTopic D A) : Type 0 where
   pub log : IsReadTopic at opened.found opened.log
   pub files : (file : List ℕ) → G.holds disk ≡ Some file → HasTopicFound at (kind_of name) opened.found file
+  pub from : IsTopicFrom G name disk opened.log

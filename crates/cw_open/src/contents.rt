@@ -1,7 +1,8 @@
 //! Whether all bodies of the logs can be read.
 ghost use Rattle.std.specs.Prelude.{◌≡◌, Some, IfOk, IfErr};
 ghost use Rattle.cw_model.specs.StandsFor.{Stored};
-ghost use Rattle.cw_open.specs.Contents.{AreFoundIn, AreReadLogs, IsFoundOf, SaysWhatIsRead, frames_of, gates_of};
+ghost use Rattle.cw_open.specs.Contents.{AreFoundIn, AreReadLogs, IsFoundOf, SaysWhatIsRead, frames_of, gates_of, logs_read};
+ghost use Rattle.cw_open.specs.OpenedFrom.{AreFrom, DisksStay};
 ghost use Rattle.cw_open.specs.Reopened.{CauseFrom, DiskFiles, TellAll, all_logs};
 
 use crate::read_logs::{ReadLogs, open_logs};
@@ -36,7 +37,9 @@ pub(crate) fn read_disks<D: Disk>(
     ensures what { IfOk result (λ read. (stored : Stored) → AreFoundIn read.logs stored →
         SaysWhatIsRead (frames_of read.logs) (gates_of read.logs) stored read.unreadable) }
     ensures logs { IfOk result (λ read. AreReadLogs D.Disk read.logs) }
+    ensures from { IfOk result (λ read. AreFrom D.Disk disks (logs_read read.logs)) }
     ensures cause { IfErr result (CauseFrom D.Disk all_logs disks) }
+    ensures stay { IfErr result (λ fault. DisksStay D.Disk disks fault.disks) }
 {
     match open_logs(alloc, disks) {
         Ok(logs) => {

@@ -1,9 +1,12 @@
 //! Eight disks, opened and judged.
 ghost use Rattle.std.specs.Prelude.{◌≡◌, IfOk, IfErr};
 ghost use Rattle.cw_model.specs.StandsFor.{Stored};
-ghost use Rattle.cw_pair.specs.State.{disks_of};
-ghost use Rattle.cw_open.specs.Contents.{SaysWhatIsRead, frames_of, gates_of};
+ghost use Rattle.cw_world.specs.Ending.{disks_of as all_disks_of};
+ghost use Rattle.cw_world.specs.Logs.{logs_of};
+ghost use Rattle.cw_open.specs.Contents.{SaysWhatIsRead, frames_of, gates_of, logs_read};
 ghost use Rattle.cw_open.specs.Judged.{AreFoundInSome, AreLogsOf, IsMetOn, IsSoundly, IsWhyNot, SaysMet, judged_of, side_in, stored_by};
+ghost use Rattle.cw_open.specs.Opened.{logs_in};
+ghost use Rattle.cw_open.specs.OpenedFrom.{AreFrom, DisksStay};
 ghost use Rattle.cw_open.specs.Reopened.{DiskFiles, FilesHold, OnReopenCause, TellAll, disk_of};
 
 use crate::contents::{ReadDisks, Unreadable, read_disks};
@@ -54,9 +57,11 @@ pub fn judge_disks<D: Disk>(
 ) -> Result<JudgedDisks<D>, ReopenFault<D>>
     ensures sound { IfOk result (λ judged. IsSoundly (stored_by judged) judged.frames) }
     ensures logs { IfOk result (λ judged. AreLogsOf D.Disk (stored_by judged) judged) }
+    ensures from { IfOk result (λ judged. AreFrom D.Disk disks (logs_in judged)) }
     ensures files { IfOk result (λ judged. (files : DiskFiles) → TellAll D.Disk disks files →
         FilesHold files (stored_by judged)) }
     ensures cause { IfErr result (IsWhyNot D.Disk disks) }
+    ensures stay { IfErr result (λ fault. DisksStay D.Disk disks fault.disks) }
 {
     match read_disks(alloc, disks) {
         Ok(read) => judge_read(alloc, read),
@@ -76,6 +81,7 @@ fn judge_read<D: Disk>(alloc: Global, read: ReadDisks<D>) -> Result<JudgedDisks<
         SaysWhatIsRead (frames_of read.logs) (gates_of read.logs) stored read.unreadable →
         IsMetOn (judged_of read.logs) stored at place harm)
         (λ at count. ⊥) (Unit {0}) fault.cause) }
+    ensures disks { IfErr result (λ fault. fault.disks ≡ all_disks_of (logs_read read.logs)) }
 {
     let ReadDisks { logs, unreadable } = read;
     let (judged, gates) = split(logs);
@@ -200,15 +206,30 @@ fn chosen_disk<D: Disk>(judged: &JudgedDisks<D>, log: LogName) -> DiskName
 
 // The disks of the logs.
 fn give_back<D: Disk>(judged: JudgedDisks<D>) -> Disks<D>
-    ensures config { record { a = result.config_a; b = result.config_b } ≡ disks_of judged.config }
-    ensures offsets { record { a = result.offsets_a; b = result.offsets_b } ≡ disks_of judged.offsets }
-    ensures status { record { a = result.status_a; b = result.status_b } ≡ disks_of judged.status }
-    ensures txn { result.txn ≡ judged.txn.disk }
-    ensures batches { result.batches ≡ judged.batches.disk }
+    ensures { result ≡ all_disks_of (logs_in judged) }
 {
-    let (config_a, config_b) = judged.config.give_back();
-    let (offsets_a, offsets_b) = judged.offsets.give_back();
-    let (status_a, status_b) = judged.status.give_back();
+    give_back_logs(
+        judged.config,
+        judged.offsets,
+        judged.status,
+        judged.txn,
+        judged.batches,
+    )
+}
+
+/// The disks of these logs.
+pub(crate) fn give_back_logs<D: Disk>(
+    config: PairLog<D>,
+    offsets: PairLog<D>,
+    status: PairLog<D>,
+    txn: TopicLog<D>,
+    batches: TopicLog<D>,
+) -> Disks<D>
+    ensures { result ≡ all_disks_of (logs_of config offsets status txn batches) }
+{
+    let (config_a, config_b) = config.give_back();
+    let (offsets_a, offsets_b) = offsets.give_back();
+    let (status_a, status_b) = status.give_back();
     Disks {
         config_a,
         config_b,
@@ -216,7 +237,7 @@ fn give_back<D: Disk>(judged: JudgedDisks<D>) -> Disks<D>
         offsets_b,
         status_a,
         status_b,
-        txn: judged.txn.give_back(),
-        batches: judged.batches.give_back(),
+        txn: txn.give_back(),
+        batches: batches.give_back(),
     }
 }

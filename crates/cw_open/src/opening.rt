@@ -5,6 +5,7 @@ ghost use Rattle.cw_types.specs.Faults.{Rose};
 ghost use Rattle.cw_log.specs.Log.{IsDamaged, OnCause, kind_of};
 ghost use Rattle.cw_pair.specs.Pair.{IsPairDamaged};
 ghost use Rattle.cw_pair.specs.State.{faults_of};
+ghost use Rattle.cw_open.specs.OpenedFrom.{PairStays, TopicStays};
 ghost use Rattle.cw_open.specs.OpenedLogs.{OpensPair, OpensTopic};
 
 use crate::found::FoundFrames;
@@ -47,6 +48,7 @@ pub(crate) fn open_pair<D: Disk, A: LogFrame>(
         (Rose (faults_of D.Disk (record { a = a; b = b }) fault.side)
         (faults_of D.Disk (record { a = fault.a; b = fault.b }) fault.side))
         (Unit {0}) fault.cause) }
+    ensures stays { IfErr result (λ fault. PairStays D.Disk name a b (record { a = fault.a; b = fault.b })) }
 {
     let mut found = FoundFrames::new(alloc);
     match PairLog::open_with(alloc, a, b, name, MOST, &mut found) {
@@ -82,6 +84,7 @@ pub(crate) fn open_topic<D: Disk, A: LogFrame>(
         (λ at harm. Told D.Disk disk (λ file. IsDamaged (kind_of name) file at harm))
         (Rose (D.count disk) (D.count fault.disk))
         (Unit {0}) fault.cause) }
+    ensures stays { IfErr result (λ fault. TopicStays D.Disk name disk fault.disk) }
 {
     let mut found = FoundFrames::new(alloc);
     match TopicLog::open_with(alloc, disk, name, MOST, &mut found) {

@@ -1,12 +1,13 @@
 //! Opens the eight disks of a cluster, log after log, and reads all of them.
 ghost use Rattle.std.specs.Prelude.{◌≡◌, ◌∷◌, [], IfOk, IfErr};
 ghost use Rattle.cw_types.specs.declared.logs.LogName.TheVariants as log;
-ghost use Rattle.cw_pair.specs.State.{faults_of};
+ghost use Rattle.cw_pair.specs.State.{disks_of, faults_of};
 ghost use Rattle.cw_bytes.specs.Reading.{records_at};
 ghost use Rattle.cw_offset.specs.BodyReading.{entry_at as stored_at};
 ghost use Rattle.cw_data.specs.BodyReading.{entry_at as data_at};
 ghost use Rattle.cw_txn.specs.BodyReading.{entries_at};
 ghost use Rattle.cw_disk.specs.declared.disks.Disks.{Disks};
+ghost use Rattle.cw_open.specs.OpenedFrom.{DisksStay, PairStays, TopicStays};
 ghost use Rattle.cw_open.specs.OpenedLogs.{OpensPair, OpensTopic};
 ghost use Rattle.cw_open.specs.Reopened.{CauseFrom, OnReopenCause, disk_of};
 ghost use Rattle.cw_log.specs.declared.fault.OpenCause.TheVariants.{Damaged, Failed, Memory};
@@ -112,6 +113,7 @@ pub(crate) fn open_logs<D: Disk>(
     ensures batches { IfOk result (λ logs. OpensTopic data_at D.Disk log.Batches disks.batches logs.batches) }
     ensures cause { IfErr result
         (CauseFrom D.Disk (log.Config ∷ log.Offsets ∷ log.Status ∷ log.Txn ∷ log.Batches ∷ []) disks) }
+    ensures stay { IfErr result (λ fault. DisksStay D.Disk disks fault.disks) }
 {
     let Disks {
         config_a,
@@ -165,6 +167,10 @@ fn open_offsets<D: Disk>(
     ensures cause { (all : Disks D) → all.offsets_a ≡ offsets_a → all.offsets_b ≡ offsets_b →
         all.status_a ≡ status_a → all.status_b ≡ status_b → all.txn ≡ txn → all.batches ≡ batches →
         IfErr result (CauseFrom D.Disk (log.Offsets ∷ log.Status ∷ log.Txn ∷ log.Batches ∷ []) all) }
+    ensures stay { (all : Disks D) → PairStays D.Disk log.Config all.config_a all.config_b (disks_of config.log) →
+        all.offsets_a ≡ offsets_a → all.offsets_b ≡ offsets_b → all.status_a ≡ status_a →
+        all.status_b ≡ status_b → all.txn ≡ txn → all.batches ≡ batches →
+        IfErr result (λ fault. DisksStay D.Disk all fault.disks) }
 {
     match open_pair(alloc, offsets_a, offsets_b, LogName::Offsets) {
         Ok(offsets) => open_status(alloc, config, offsets, status_a, status_b, txn, batches),
@@ -206,6 +212,10 @@ fn open_status<D: Disk>(
     ensures cause { (all : Disks D) → all.status_a ≡ status_a → all.status_b ≡ status_b → all.txn ≡ txn →
         all.batches ≡ batches →
         IfErr result (CauseFrom D.Disk (log.Status ∷ log.Txn ∷ log.Batches ∷ []) all) }
+    ensures stay { (all : Disks D) → PairStays D.Disk log.Config all.config_a all.config_b (disks_of config.log) →
+        PairStays D.Disk log.Offsets all.offsets_a all.offsets_b (disks_of offsets.log) →
+        all.status_a ≡ status_a → all.status_b ≡ status_b → all.txn ≡ txn → all.batches ≡ batches →
+        IfErr result (λ fault. DisksStay D.Disk all fault.disks) }
 {
     match open_pair(alloc, status_a, status_b, LogName::Status) {
         Ok(status) => open_txn(alloc, config, offsets, status, txn, batches),
@@ -246,6 +256,10 @@ fn open_txn<D: Disk>(
     ensures batches { IfOk result (λ logs. OpensTopic data_at D.Disk log.Batches batches logs.batches) }
     ensures cause { (all : Disks D) → all.txn ≡ txn → all.batches ≡ batches →
         IfErr result (CauseFrom D.Disk (log.Txn ∷ log.Batches ∷ []) all) }
+    ensures stay { (all : Disks D) → PairStays D.Disk log.Config all.config_a all.config_b (disks_of config.log) →
+        PairStays D.Disk log.Offsets all.offsets_a all.offsets_b (disks_of offsets.log) →
+        PairStays D.Disk log.Status all.status_a all.status_b (disks_of status.log) → all.txn ≡ txn →
+        all.batches ≡ batches → IfErr result (λ fault. DisksStay D.Disk all fault.disks) }
 {
     match open_topic(alloc, txn, LogName::Txn) {
         Ok(txn) => open_batches(alloc, config, offsets, status, txn, batches),
@@ -287,6 +301,11 @@ fn open_batches<D: Disk>(
     ensures batches { IfOk result (λ logs. OpensTopic data_at D.Disk log.Batches batches logs.batches) }
     ensures cause { (all : Disks D) → all.batches ≡ batches →
         IfErr result (CauseFrom D.Disk (log.Batches ∷ []) all) }
+    ensures stay { (all : Disks D) → PairStays D.Disk log.Config all.config_a all.config_b (disks_of config.log) →
+        PairStays D.Disk log.Offsets all.offsets_a all.offsets_b (disks_of offsets.log) →
+        PairStays D.Disk log.Status all.status_a all.status_b (disks_of status.log) →
+        TopicStays D.Disk log.Txn all.txn txn.log.disk → all.batches ≡ batches →
+        IfErr result (λ fault. DisksStay D.Disk all fault.disks) }
 {
     match open_topic(alloc, batches, LogName::Batches) {
         Ok(batches) => Ok(ReadLogs {

@@ -16,3 +16,7 @@ returns-in-Ok-clause-files g c files told =
 pub returns-in-Ok-clause-logs : goal.returns-in-Ok-clause-logs
 returns-in-Ok-clause-logs g c = let is = c.in-Ok.ensures in
     record { config = is.config.log; offsets = is.offsets.log; status = is.status.log; txn = is.txn.log; batches = is.batches.log }
+
+pub returns-in-Ok-clause-from : goal.returns-in-Ok-clause-from
+returns-in-Ok-clause-from g c = let is = c.in-Ok.ensures in
+    record { config = is.config.from; offsets = is.offsets.from; status = is.status.from; txn = is.txn.from; batches = is.batches.from }

@@ -1,5 +1,6 @@
-use Rattle.std.proofs.Common.{◌∙◌, sym}
+use Rattle.std.proofs.Common.{◌∙◌, IsSome, refl, sym, subst}
 use Rattle.cw_log.specs.Log.{kind_of}
+use Rattle.cw_pair.specs.State.{Opens}
 use Rattle.cw_open.proofs.Steps.{refuted}
 use Rattle.cw_open.proofs.OpeningLemmas.{begins-empty, numbered-by}
 use Rattle.cw_open.proofs.opening.open_pair.Goals as goal
@@ -35,4 +36,17 @@ returns-else-not-counts-clause-opened g c =
             «in» = seen list.0 list.1;
           };
       side = λ file_a file_b told_a told_b. c.in-Ok.ensures.side file_a told_a file_b told_b;
+      from = record {
+        kind = c.in-Ok.ensures.new.0;
+        tells = λ file_a file_b told_a told_b. let list = c.in-Ok.ensures.list file_a told_a file_b told_b in subst (λ o. IsSome o) (sym list.1) refl;
+        stays = λ file_a file_b told_a told_b. c.in-Ok.ensures.any_moment file_a told_a file_b told_b;
+        rest = λ told is list since. c.rest.ensures.left c.in-Ok.ensures.new.2 told is list since;
+      };
     }
+
+pub returns-then-not-counts-clause-stays : goal.returns-then-not-counts-clause-stays
+returns-then-not-counts-clause-stays g c = λ file_a file_b told_a told_b.
+    subst (Opens g.D.Disk (kind_of c.args.name) file_a file_b (record { a = c.args.a; b = c.args.b })) (sym c.give_back-a.ensures.disks) (c.in-Ok.ensures.any_moment file_a told_a file_b told_b)
+
+pub returns-in-Err-clause-stays : goal.returns-in-Err-clause-stays
+returns-in-Err-clause-stays g c = λ file_a file_b told_a told_b. c.in-Err.ensures.any_moment file_a told_a file_b told_b

@@ -1,4 +1,7 @@
-use Rattle.std.proofs.Common.{◌∙◌, sym}
+use Rattle.std.proofs.Common.{◌∙◌, IsSome, refl, sym, subst}
+use Rattle.cw_disk.specs.Told.{Adds}
+use Rattle.cw_log.specs.Log.{StandAlike, kind_of}
+use Rattle.cw_log.proofs.OneReading.{stands_for_one}
 use Rattle.cw_open.proofs.Steps.{refuted}
 use Rattle.cw_open.proofs.OpeningLemmas.{begins-empty}
 use Rattle.cw_open.proofs.opening.open_topic.Goals as goal
@@ -25,4 +28,15 @@ returns-else-not-counts-clause-opened g c =
       files = λ file told.
           let list = c.in-Ok.ensures.list file told in
           record { bodies = list.0; stands = list.2; «in» = seen list.0 list.1 };
+      from = record {
+        kind = c.in-Ok.ensures.new.0;
+        tells = λ file told. let list = c.in-Ok.ensures.list file told in subst (λ o. IsSome o) (sym list.1) refl;
+        stays = λ file told. c.in-Ok.ensures.any_moment file told;
+        rest = λ told is list since. stands_for_one c.in-Ok.log.kind list told since.image since.stands
+            (c.rest.ensures.left c.in-Ok.ensures.new.2 told is since.image (g.met.D.Disk.only_now c.in-Ok.log.disk since.image since.left));
+      };
     }
+
+pub returns-then-not-counts-clause-stays : goal.returns-then-not-counts-clause-stays
+returns-then-not-counts-clause-stays g c = λ file told.
+    subst (λ d. Adds g.D.Disk c.args.disk d (StandAlike (kind_of c.args.name) file)) (sym c.give_back.ensures.disk) (c.in-Ok.ensures.any_moment file told)
