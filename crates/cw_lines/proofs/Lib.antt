@@ -1,0 +1,9 @@
+pub mod Counts
+pub mod EndLemmas
+pub mod FeedLemmas
+pub mod LineLemmas
+pub mod PlayLemmas
+pub mod Results
+pub mod SoFar
+pub mod StepLemmas
+pub mod TellLemmas

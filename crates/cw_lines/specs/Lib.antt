@@ -1,0 +1,6 @@
+pub mod Lines
+pub mod Plays
+pub mod Players
+pub mod Sessions
+pub mod Due
+pub mod Drives
