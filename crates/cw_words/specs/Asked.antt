@@ -1,0 +1,65 @@
+-- Which command words are.
+use Rattle.std.specs.Prelude.{ℕ, ◌^◌, ◌-◌, ◌≤◌, ◌&&◌, List, [], ◌∷◌, Option, None, Some, Result, Ok, Err}
+use Rattle.std.specs.Prelude.{option_map, option_and_then, codes, nat_le, if◌then◌else◌}
+use Rattle.std.specs.Str.{bytes_eq}
+use Rattle.clap.specs.Words.{Row, Text, fault_of, first_of, subcommand_of}
+use Rattle.clap.specs.Kinds.{Kinds}
+use Rattle.cw_types.specs.Decimal.{number_of}
+use Rattle.cw_types.specs.Name.{name_of}
+use Rattle.cw_words.specs.Program.{program}
+use Rattle.cw_words.specs.declared.command.Command.{Command}
+use Rattle.cw_words.specs.declared.command.Command.TheVariants.{Drive}
+use Rattle.cw_words.specs.declared.command.Options.{Options}
+use Rattle.cw_words.specs.declared.command.WordsFault.{WordsFault}
+use Rattle.cw_words.specs.declared.command.WordsFault.TheVariants.{Usage}
+
+-- the name that an option's value is
+abbrev pub name_in : Text → List Row → Option (List ℕ)
+name_in id rows = option_and_then name_of (first_of id rows)
+
+-- the number that a text is, where it is in a range
+abbrev pub number_between : ℕ → ℕ → Text → Option ℕ
+number_between least most text = option_and_then (λ n. if nat_le least n && nat_le n most then Some n else None)
+    (number_of (2 ^ 64 - 1) text)
+
+-- the number that an option's value is, where it is in a range
+abbrev pub number_in : ℕ → ℕ → Text → List Row → Option ℕ
+number_in least most id rows = option_and_then (number_between least most) (first_of id rows)
+
+-- the longest delay
+abbrev pub most_delay : ℕ
+most_delay = 2 ^ 40
+
+abbrev pub options_of : List Row → Option Options
+options_of rows = option_and_then (λ group. option_map (λ delay. record { group = group; delay = delay })
+    (number_in 0 most_delay (codes "delay") rows)) (name_in (codes "group") rows)
+
+-- the command of a subcommand's name and of the values that were found for it
+abbrev pub command_named : Text × List Row → Option Command
+command_named p = if bytes_eq p.0 (codes "drive") then option_map Drive (options_of p.1) else None
+
+-- the command of the subcommand that was found
+abbrev pub command_in : Option (Text × List Row) → Option Command
+command_in = option_and_then command_named
+
+-- nothing is asked for where `clap` has a fault
+abbrev pub unless_fault : Kinds → Option Command → Option Command
+unless_fault [] asked = asked
+unless_fault (kind ∷ kinds) asked = None
+
+-- the command that words are, where `clap` takes them
+abbrev pub command_of : List Text → Option Command
+command_of words = unless_fault (fault_of program words) (command_in (subcommand_of program words))
+
+-- the numbers of a command are in their ranges
+abbrev pub IsInRange : Command → Type 0
+IsInRange (Drive options) = options.delay ≤ most_delay
+
+-- what is asked for, or the fault of words that ask for nothing
+abbrev pub or_usage : {A : Type 0} → Option A → Result A WordsFault
+or_usage (Some x) = Ok x
+or_usage None = Err Usage
+
+-- `drive` with this group and this delay
+abbrev pub drive_with : Text → ℕ → Option Command
+drive_with group delay = Some (Drive (record { group = group; delay = delay }))

@@ -1,0 +1,26 @@
+-- The definition that `clap` is given of the program: its subcommands with their options. The names are this project's
+-- own; the defaults are those of Kafka Connect's `group.id`, in its sample of a distributed worker, and of
+-- `scheduled.rebalance.max.delay.ms` (KIP-415).
+use Rattle.std.specs.Prelude.{true, [], ◌∷◌, Some, codes}
+use Rattle.clap.specs.Words.{App, Rule, Text, new_app, new_rule, with_rule, with_subcommand}
+
+-- `--NAME VALUE`, with the value that stands where it isn't given
+abbrev pub option : Text → Text → Rule
+option name default = record (new_rule name) { long = Some name; defaults = default ∷ [] }
+
+-- with the options that every command takes
+abbrev pub with_shared : App → App
+with_shared a = with_rule (with_rule a (option (codes "group") (codes "connect-cluster")))
+    (option (codes "delay") (codes "300000"))
+
+abbrev pub drive : App
+drive = with_shared (new_app (codes "drive"))
+
+-- the words are those behind the program's name
+abbrev pub named : App
+named = record (new_app (codes "connect")) {
+  top = record (new_app (codes "connect")).top { no_binary_name = true; subcommand_required = true };
+}
+
+abbrev pub program : App
+program = with_subcommand named drive.top

@@ -1,0 +1,44 @@
+//! The commands of the program, and why words are none.
+ghost use Rattle.std.specs.Prelude.{◌≡◌};
+
+use cw_types::Name;
+use std::alloc::AllocError;
+use thiserror::Error;
+
+/// What every command takes.
+#[derive(Debug, PartialEq, Eq, Drop)]
+pub struct Options {
+    /// The name of the group that the workers form, Kafka Connect's `group.id`.
+    pub group: Name,
+    /// How many milliseconds a departed worker's items wait for it, Kafka Connect's
+    /// `scheduled.rebalance.max.delay.ms` (KIP-415).
+    pub delay: u64,
+}
+
+/// A command of the program.
+#[derive(Debug, PartialEq, Eq, Drop)]
+pub enum Command {
+    /// Plays the directives of the standard input.
+    Drive(Options),
+}
+
+/// Why words give no command.
+#[derive(Clone, Copy, Debug, PartialEq, Eq, Drop, Error)]
+pub enum WordsFault {
+    /// The words are none of the commands, or ask for help, or a value is out of its range.
+    #[error("the words are none of the program's commands")]
+    Usage,
+    /// There was no memory for reading them.
+    #[error("out of memory")]
+    Memory,
+}
+
+impl From<AllocError> for WordsFault {
+    ghost use Rattle.cw_words.specs.declared.command.WordsFault.TheVariants.{Memory};
+
+    ghost from_gives = { λ _ fault. fault ≡ Memory };
+
+    fn from(_: AllocError) -> WordsFault {
+        WordsFault::Memory
+    }
+}

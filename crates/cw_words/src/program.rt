@@ -1,0 +1,44 @@
+//! The definition that `clap` is given of the program.
+ghost use Rattle.std.specs.Prelude.{◌≡◌, IfOk};
+ghost use Rattle.clap.specs.Words.{app_of, rule_of};
+ghost use Rattle.cw_words.specs.Program.{drive, named, option, program, with_shared};
+
+use clap::{Arg, Command};
+use std::alloc::{AllocError, Global};
+
+// The option `--name`, with the value that stands where it isn't given.
+fn option<'a>(alloc: Global, name: &'a str, default: &'a str) -> Arg<'a>
+    ensures { rule_of result ≡ option name.entry.now default.entry.now }
+{
+    Arg::new(alloc, name).long(name).default_value(default)
+}
+
+// A command with the options that every command takes.
+fn with_shared<'a>(alloc: Global, command: Command<'a>) -> Result<Command<'a>, AllocError>
+    ensures { IfOk result (λ r. app_of r ≡ with_shared (app_of command.entry)) }
+{
+    command
+        .arg(option(alloc, "group", "connect-cluster"))?
+        .arg(option(alloc, "delay", "300000"))
+}
+
+fn drive<'a>(alloc: Global) -> Result<Command<'a>, AllocError>
+    ensures { IfOk result (λ r. app_of r ≡ drive) }
+{
+    with_shared(alloc, Command::new(alloc, "drive"))
+}
+
+fn named<'a>(alloc: Global) -> Command<'a>
+    ensures { app_of result ≡ named }
+{
+    Command::new(alloc, "connect")
+        .no_binary_name(true)
+        .subcommand_required(true)
+}
+
+// The program with its subcommands.
+pub(crate) fn program<'a>(alloc: Global) -> Result<Command<'a>, AllocError>
+    ensures { IfOk result (λ r. app_of r ≡ program) }
+{
+    named(alloc).subcommand(drive(alloc)?)
+}

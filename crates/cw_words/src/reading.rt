@@ -1,0 +1,101 @@
+//! Words are read.
+ghost use Rattle.std.specs.Prelude.{◌≡◌, ◌≢◌, None, Some, Err, IfOk, map, option_map, string_bytes};
+ghost use Rattle.clap.specs.Words.{first_of, found_of, kind_of, rows_of, subcommand_rows_of};
+ghost use Rattle.cw_types.specs.Answers.{Gives};
+ghost use Rattle.cw_words.specs.Asked.{IsInRange, command_in, command_of, name_in, number_between, number_in};
+ghost use Rattle.cw_words.specs.Asked.{options_of, or_usage};
+
+use crate::command::{Command, Options, WordsFault};
+use crate::program::program;
+use clap::ArgMatches;
+use clap::error::ErrorKind;
+use cw_types::{Memory, Name, read_u64};
+use std::alloc::Global;
+
+// The value that an option has.
+fn value_in<'a>(found: &ArgMatches<'a>, id: &str) -> Option<&'a str>
+    ensures { option_map (λ s. s.now) result ≡ first_of id.now (rows_of (found_of found.now)) }
+{
+    found.get_str(id)
+}
+
+// The name that an option's value is, or none.
+fn name_in(alloc: Global, found: &ArgMatches<'_>, id: &str) -> Result<Option<Name>, Memory>
+    ensures { IfOk result (λ name. name ≡ name_in id.now (rows_of (found_of found.now))) }
+{
+    match value_in(found, id) {
+        Some(text) => Name::from_bytes(alloc, text.as_bytes()),
+        None => Ok(None),
+    }
+}
+
+// The number that a text is, where it is in a range.
+fn number_between(text: &str, least: u64, most: u64) -> Option<u64>
+    ensures { result ≡ number_between least most text.now }
+{
+    let number = read_u64(text.as_bytes())?;
+    if least <= number && number <= most {
+        Some(number)
+    } else {
+        None
+    }
+}
+
+// The number that an option's value is, where it is in a range.
+fn number_in(found: &ArgMatches<'_>, id: &str, least: u64, most: u64) -> Option<u64>
+    ensures { result ≡ number_in least most id.now (rows_of (found_of found.now)) }
+{
+    number_between(value_in(found, id)?, least, most)
+}
+
+// What every command takes, by the values that were found.
+fn options_in(alloc: Global, found: &ArgMatches<'_>) -> Result<Options, WordsFault>
+    ensures { Gives WordsFault.Memory result (or_usage (options_of (rows_of (found_of found.now)))) }
+{
+    let Some(group) = name_in(alloc, found, "group")? else {
+        return Err(WordsFault::Usage);
+    };
+    let Some(delay) = number_in(found, "delay", 0, 1 << 40) else {
+        return Err(WordsFault::Usage);
+    };
+    Ok(Options { group, delay })
+}
+
+// The command of the subcommand that was found.
+fn command_in(alloc: Global, matches: &ArgMatches<'_>) -> Result<Command, WordsFault>
+    ensures { Gives WordsFault.Memory result (or_usage (command_in (subcommand_rows_of matches.now))) }
+{
+    let Some((name, found)) = matches.subcommand() else {
+        return Err(WordsFault::Usage);
+    };
+    if name == "drive" {
+        return Ok(Command::Drive(options_in(alloc, found)?));
+    }
+    Err(WordsFault::Usage)
+}
+
+// A parse that failed: for want of memory, or for the words.
+fn fault_of(error: &clap::Error) -> WordsFault
+    ensures memory { kind_of error.now ≡ ErrorKind.OutOfMemory → result ≡ WordsFault.Memory }
+    ensures usage { kind_of error.now ≢ ErrorKind.OutOfMemory → result ≡ WordsFault.Usage }
+{
+    match error.kind() {
+        ErrorKind::OutOfMemory => WordsFault::Memory,
+        _ => WordsFault::Usage,
+    }
+}
+
+/// The command that the words behind the program's name are, by `clap`'s reading of the program's definition: one
+/// subcommand with its options, each as `--NAME VALUE` or `--NAME=VALUE` and at most once. Usage comes exactly where
+/// `clap` doesn't take the words (it answers help for some, and no word is a subcommand that is missing), where the
+/// group is no name, or where a number isn't decimal without sign and leading zeros in its range.
+pub fn read_words(alloc: Global, words: &[String]) -> Result<Command, WordsFault>
+    ensures asked { IfOk result (λ command. command_of (map string_bytes words.now) ≡ Some command) }
+    ensures ranges { IfOk result IsInRange }
+    ensures usage { result ≡ Err WordsFault.Usage → command_of (map string_bytes words.now) ≡ None }
+{
+    match program(alloc)?.try_get_matches_from(words) {
+        Ok(matches) => command_in(alloc, &matches),
+        Err(error) => Err(fault_of(&error)),
+    }
+}
