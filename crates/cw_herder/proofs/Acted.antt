@@ -8,7 +8,7 @@ use Rattle.cw_model.specs.declared.fault.WorldFault.TheVariants.{StoreFault, Mem
 use Rattle.cw_model.specs.State.{Cluster}
 use Rattle.cw_model.specs.Answers.{Answer}
 use Rattle.cw_model.specs.Reopening.{stored_of}
-use Rattle.cw_world.specs.Logs.{AddsTo, view_in, list_in}
+use Rattle.cw_world.specs.Logs.{AddsTo, LeavesNow, view_in, list_in}
 use Rattle.cw_world.specs.World.{WorldState, Acts, RunsOut, Breaks}
 
 -- what another event answers where one answers this
@@ -41,6 +41,9 @@ module _ {D A B : Type 0} (G : Ghosts D) (event : Cluster → Answer A) (other :
         state = b.state;
         fails = b.fails;
         same = b.same;
+        left = subst (λ (t : Cluster). (told : List (List ℕ)) → (view_in G log old.logs).bodies ≡ Some told →
+            LeavesNow G log new.logs (λ list. (list ≡ list_in log (stored_of old.state)) ⊎ (list ≡ list_in log (stored_of t))))
+            (sym otherwise.state) b.left;
       }
 
   pub acts-as : Acts G event old new result → Acts G other old new answer

@@ -1,12 +1,11 @@
 -- What the events of a tick ask, and what they come to, from what is so where the turn is taken.
-use Rattle.std.proofs.Common.{◌≡◌, ◌≢◌, ◌<◌, ◌≤◌, ℕ, Bool, true, false, List, length, max, nat_lt, slice_set, Option, Some, None, IsSome, Result, Ok, Err, refl, sym, ◌∙◌, ap, subst, arith, inl, inr, unwrap_or, if◌then◌else◌}
+use Rattle.std.proofs.Common.{◌≡◌, ◌≢◌, ◌<◌, ◌≤◌, ℕ, Bool, true, false, List, length, max, Option, Some, None, IsSome, Result, Ok, Err, refl, sym, ◌∙◌, ap, subst, arith, inl, inr, unwrap_or, if◌then◌else◌}
 use Rattle.std.specs.Option.{option_map, is_some}
 use Rattle.std.proofs.lemmas.Bool.{ltb-true, ltb-false}
 use Rattle.std.proofs.lemmas.List.{length-set}
 use Rattle.cw_types.specs.declared.ids.Epoch.{Epoch}
 use Rattle.cw_types.specs.declared.ids.Item.{Item}
 use Rattle.cw_types.specs.declared.logs.DiskName.{DiskName}
-use Rattle.cw_keys.specs.declared.state.State.{State}
 use Rattle.cw_laws.proofs.Lists.{read-cases}
 use Rattle.cw_model.specs.declared.fault.WorldFault.{WorldFault}
 use Rattle.cw_model.specs.declared.fault.WorldFault.TheVariants.{Dead, Memory}
@@ -21,9 +20,9 @@ use Rattle.cw_model.specs.EventsLeading.{fencing_of, fence_one, append_fence, ap
 use Rattle.cw_model.specs.EventsReports.{MayReport}
 use Rattle.cw_model.specs.EventsWorkers.{clock}
 use Rattle.cw_model.specs.Lookups.{row_of, seen, no_row}
-use Rattle.cw_model.specs.Proposals.{proposal_of, are_deferred, commit_records, task_records}
+use Rattle.cw_model.specs.Proposals.{proposal_of, commit_records, task_records}
 use Rattle.cw_model.specs.Tick.{rule_for}
-use Rattle.cw_model.specs.TickRules.{Rule, tells, unless_lost, number_at, report_applies}
+use Rattle.cw_model.specs.TickRules.{Rule, tells, unless_lost, report_applies}
 use Rattle.cw_model.specs.Updates.{changes_row}
 use Rattle.cw_ticks.specs.declared.turn.Turn.TheVariants as turn
 use Rattle.cw_ticks.specs.Turns.{IsTurn}

@@ -1,11 +1,15 @@
-//! What a worker's herder does: one tick, which makes the one event that the first rule that applies asks for.
+//! What a worker's herder does: one tick, which makes the one event that the first rule that applies asks for, and one
+//! call of the REST API.
 //!
-//! Its public contract promises that a tick does to the world what the model's tick does, or that memory is wanting and
-//! nothing has changed, or that a disk failed where the event would have been done; and that a stop at any moment of it
-//! leaves of each log the list before the event or the one behind it.
-//! It stands on the world, and on the rules that say what a worker does next.
+//! Its public contract promises that a tick does to the world what the model's tick does, and a call what the model's
+//! answer to it does, or that memory is wanting and nothing has changed, or that a disk failed where the event would
+//! have been done; and that a stop at any moment of it leaves of each log the list before the event or the one behind
+//! it. Where memory is wanting behind the event of a call, the worker alone hasn't read yet what was written.
+//! It stands on the world, on the rules that say what a worker does next, and on what calls see, are answered and
+//! write.
 #![tactic(auto)]
 
+mod answering_calls;
 mod fencing;
 mod items;
 mod leading;
@@ -13,7 +17,10 @@ mod marking;
 mod proposing;
 mod reading;
 mod rounds;
+mod submitting;
 mod taking;
 mod ticking;
+mod writing_calls;
 
+pub use submitting::submit;
 pub use ticking::tick;

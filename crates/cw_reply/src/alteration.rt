@@ -9,6 +9,7 @@ ghost use Rattle.cw_reply.specs.Alterations.{alteration_in};
 
 use crate::body::has_members;
 use crate::names::{count_at, name_at, u64_at};
+use cw_txn::SetOffset;
 use cw_types::{Name, PartKey};
 use serde_json::Value;
 use std::alloc::{AllocError, Global};
@@ -182,50 +183,67 @@ fn offset_name(part: &PartKey) -> &'static str
     }
 }
 
-// Whether a value is an offset of a part, or null for none.
-fn is_offset(part: &PartKey, value: &Value) -> bool
-    ensures { result ≡ is_some (offsets.offset_in part.now (view value.now)) }
+// A position below 2^48, as the offset of a part.
+fn position_in(part: &PartKey, value: &Value) -> Option<Option<u64>>
+    ensures { result ≡ offsets.position_in part.now (view value.now) }
 {
-    match value {
-        Value::Null => true,
-        Value::Object(_) => {
-            has_members(1, value)
-                && u64_at(offset_name(part), value).is_some_and(|to| to < 281474976710656)
-        }
-        _ => false,
+    if !has_members(1, value) {
+        return None;
+    }
+    match u64_at(offset_name(part), value) {
+        Some(to) if to < 281474976710656 => Some(Some(to)),
+        _ => None,
     }
 }
 
-// Whether an alteration sets an offset of a connector of a type.
-fn is_set(
+// The offset of a part that a value tells, or null for none.
+fn offset_in(part: &PartKey, value: &Value) -> Option<Option<u64>>
+    ensures { result ≡ offsets.offset_in part.now (view value.now) }
+{
+    match value {
+        Value::Null => Some(None),
+        Value::Object(_) => position_in(part, value),
+        _ => None,
+    }
+}
+
+// What an alteration sets of a connector of a type.
+fn set_of(
     alloc: Global,
     is_source: bool,
     connector: &Name,
     alteration: &Alteration<'_>,
-) -> Result<bool, AllocError>
-    ensures { IfOk result (λ is. is ≡
-        is_some (offsets.set_by is_source connector.now (alteration_in alteration.now))) }
+) -> Result<Option<SetOffset>, AllocError>
+    ensures { IfOk result (λ set. set ≡ offsets.set_by is_source connector.now (alteration_in alteration.now)) }
 {
-    match part_in(alloc, connector, alteration.partition)? {
-        Some(part) => Ok(is_of_type(is_source, &part) && is_offset(&part, alteration.offset)),
-        None => Ok(false),
+    let Some(part) = part_in(alloc, connector, alteration.partition)? else {
+        return Ok(None);
+    };
+    if !is_of_type(is_source, &part) {
+        return Ok(None);
+    }
+    match offset_in(&part, alteration.offset) {
+        Some(to) => Ok(Some(SetOffset { part, to })),
+        None => Ok(None),
     }
 }
 
-// Whether each of them does.
-pub(crate) fn are_sets(
+// What they set in their order, where each sets an offset.
+pub(crate) fn sets_by(
     alloc: Global,
     is_source: bool,
     connector: &Name,
     list: &[Alteration<'_>],
-) -> Result<bool, AllocError>
-    ensures { IfOk result (λ are. are ≡
-        is_some (offsets.sets_by is_source connector.now (map alteration_in list.now))) }
+) -> Result<Option<Vec<SetOffset>>, AllocError>
+    ensures { IfOk result (λ sets. option_map (λ sets. sets.items) sets ≡
+        offsets.sets_by is_source connector.now (map alteration_in list.now)) }
 {
+    let mut sets = Vec::new(alloc);
     for alteration in list {
-        if !is_set(alloc, is_source, connector, alteration)? {
-            return Ok(false);
+        match set_of(alloc, is_source, connector, alteration)? {
+            Some(set) => sets.push(set)?,
+            None => return Ok(None),
         }
     }
-    Ok(true)
+    Ok(Some(sets))
 }

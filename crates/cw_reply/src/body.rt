@@ -9,11 +9,13 @@ use cw_json::{JsonFault, Props, Text, props_of, read_value};
 use serde_json::Value;
 use std::alloc::{AllocError, Global};
 
-// A connector that is to be made.
+/// A connector that is to be made.
 #[derive(Drop)]
-pub(crate) struct Asked {
-    pub(crate) name: Text,
-    pub(crate) config: Props,
+pub struct Asked {
+    /// Its name, which may be none that a connector can have.
+    pub name: Text,
+    /// Its properties, as they are kept.
+    pub config: Props,
 }
 
 // Whether a value is an object of so many members.
@@ -62,8 +64,9 @@ fn named_config(alloc: Global, name: &str, value: &Value) -> Result<Option<Props
     Ok(Some(props))
 }
 
-// The config that a body gives a connector.
-pub(crate) fn config_in(alloc: Global, name: &str, text: &[u8]) -> Result<Option<Props>, AllocError>
+/// The config that a body gives a connector, as it is kept; none where the body is no config of that connector. Want of
+/// memory is the only error.
+pub fn config_in(alloc: Global, name: &str, text: &[u8]) -> Result<Option<Props>, AllocError>
     ensures { IfOk result (λ props. props ≡ body.config_in name.now text.now) }
 {
     match read_value(alloc, text)? {
@@ -98,8 +101,9 @@ fn asked_by(alloc: Global, value: &Value) -> Result<Option<Asked>, AllocError>
     }
 }
 
-// The connector that a body asks for; its name may be none that a connector can have.
-pub(crate) fn asked_in(alloc: Global, text: &[u8]) -> Result<Option<Asked>, AllocError>
+/// The connector that a body asks for; its name may be none that a connector can have. Want of memory is the only
+/// error.
+pub fn asked_in(alloc: Global, text: &[u8]) -> Result<Option<Asked>, AllocError>
     ensures { IfOk result (λ asked. option_map asked_of asked ≡ body.asked_in text.now) }
 {
     let Some(value) = read_value(alloc, text)? else {

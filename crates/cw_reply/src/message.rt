@@ -122,8 +122,8 @@ pub(crate) fn bad_name(alloc: Global) -> Result<Reply, AllocError>
     refusal(alloc, 400, "Bad connector name")
 }
 
-// There is no leader through which the asked worker may write.
-pub(crate) fn rebalancing(alloc: Global) -> Result<Reply, AllocError>
+/// The reply that tells that there is no leader through which the asked worker may write.
+pub fn rebalancing(alloc: Global) -> Result<Reply, AllocError>
     ensures { IfOk result (λ reply. reply ≡ message.rebalancing) }
 {
     refusal(alloc, 409, "Cannot complete request because of a rebalance")

@@ -9,8 +9,8 @@ use cw_types::Name;
 use serde_json::Value;
 use std::alloc::{AllocError, Global};
 
-// A name as a text.
-pub(crate) fn text_of_name(name: &Name) -> &str
+/// A name as a text.
+pub fn text_of_name(name: &Name) -> &str
     ensures { result.now ≡ name.now }
 {
     match str::from_utf8(name.as_bytes()) {

@@ -1,5 +1,5 @@
 //! The offsets of a connector, and what alterations and resets of them are answered (KIP-875).
-ghost use Rattle.std.specs.Prelude.{◌≡◌, ◌∷◌, [], false, IfOk, OnOk, map, unwrap_or, option_map, codes};
+ghost use Rattle.std.specs.Prelude.{◌≡◌, ◌∷◌, [], false, IfOk, OnOk, map, unwrap_or, option_map, option_and_then, codes};
 ghost use Rattle.serde_json.specs.View.{view};
 ghost use Rattle.serde_json.specs.Written.{has_float};
 ghost use Rattle.cw_keys.specs.Counts.{count_data};
@@ -15,7 +15,7 @@ ghost use Rattle.cw_route.specs.declared.reply.Reply.{Reply};
 ghost use Rattle.cw_reply.specs.Alterations.{alteration_in};
 ghost use Rattle.cw_reply.specs.View.{seen_in};
 
-use crate::alteration::{Alteration, alterations_of, are_sets};
+use crate::alteration::{Alteration, alterations_of, sets_by};
 use crate::message::{bad_body, bad_offset, no_connector, not_stopped, rebalancing, replied};
 use crate::names::text_of_name;
 use crate::page::{is_source, message_value};
@@ -25,6 +25,7 @@ use crate::view::View;
 use cw_json::read_value;
 use cw_keys::Target;
 use cw_route::Reply;
+use cw_txn::SetOffset;
 use cw_types::{Name, PartKey};
 use serde_json::{Value, json};
 use std::alloc::{AllocError, Global};
@@ -183,9 +184,9 @@ fn altered(
     ensures { IfOk result (λ reply. reply ≡
         replies.alter_reply seen.now.ready (seen_in seen.now) name.now (map alteration_in list.now)) }
 {
-    let are_good = are_sets(alloc, is_source_of(name, seen), name, list)?;
+    let sets = sets_by(alloc, is_source_of(name, seen), name, list)?;
     let text = "The offsets for this connector have been altered successfully";
-    told_if_stopped(alloc, name, seen, are_good, text)
+    told_if_stopped(alloc, name, seen, sets.is_some(), text)
 }
 
 // Offsets are altered.
@@ -205,4 +206,59 @@ pub(crate) fn alter(
         Some(list) => altered(alloc, name, &list, seen),
         None => bad_body(alloc),
     }
+}
+
+// What the alterations in a body's value set.
+fn sets_told(
+    alloc: Global,
+    name: &Name,
+    value: &Value,
+    seen: &View<'_>,
+) -> Result<Option<Vec<SetOffset>>, AllocError>
+    ensures { IfOk result (λ sets. option_map (λ sets. sets.items) sets ≡
+        option_and_then (replies.sets_of name.now (seen_in seen.now))
+        (offsets.alterations_by name.now (view value.now))) }
+{
+    match alterations_of(alloc, name, value)? {
+        Some(list) => sets_by(alloc, is_source_of(name, seen), name, &list),
+        None => Ok(None),
+    }
+}
+
+/// The offsets that a body alters of a connector, by the connector's type; none where the body isn't that of such a
+/// call, or an offset is none of that type (KIP-875). Want of memory is the only error.
+pub fn sets_in(
+    alloc: Global,
+    name: &Name,
+    body: &[u8],
+    seen: &View<'_>,
+) -> Result<Option<Vec<SetOffset>>, AllocError>
+    ensures { IfOk result (λ sets. option_map (λ sets. sets.items) sets ≡
+        option_and_then (replies.sets_of name.now (seen_in seen.now)) (alterations_in name.now body.now)) }
+{
+    match read_value(alloc, body)? {
+        Some(value) => sets_told(alloc, name, &value, seen),
+        None => Ok(None),
+    }
+}
+
+// Parts that have their places, without these.
+fn parts_in(alloc: Global, placed: &BTreeSet<Placed>) -> Result<Vec<PartKey>, AllocError>
+    ensures { IfOk result (λ parts. parts.items ≡ map (λ placed. placed.part) placed.now.keys) }
+{
+    let mut parts = Vec::new(alloc);
+    for place in placed {
+        parts.push(place.part.copy()?)?;
+    }
+    Ok(parts)
+}
+
+/// The parts of a connector, by its type, that have offsets, in the order in which they are told (KIP-875). Want of
+/// memory is the only error.
+pub fn parts_seen(alloc: Global, name: &Name, seen: &View<'_>) -> Result<Vec<PartKey>, AllocError>
+    ensures { IfOk result (λ parts. parts.items ≡ page.parts_seen name.now (seen_in seen.now)) }
+{
+    let parts = seen.txn.parts_of(name)?;
+    let placed = in_order(alloc, is_source_of(name, seen), &parts)?;
+    parts_in(alloc, &placed)
 }

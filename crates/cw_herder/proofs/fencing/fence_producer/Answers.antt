@@ -1,9 +1,9 @@
-use Rattle.std.proofs.Common.{◌≡◌, ◌∙◌, ℕ, Bool, Result, Ok, Err, true, false, IsSome, length, sym, ap, subst}
+use Rattle.std.proofs.Common.{◌∙◌, ℕ, Result, Ok, sym, ap}
 use Rattle.cw_types.specs.declared.ids.Epoch.{Epoch}
 use Rattle.cw_model.specs.declared.fault.WorldFault.{WorldFault}
 use Rattle.cw_model.specs.declared.tick.Tick.TheVariants as outcome
 use Rattle.cw_model.specs.TickRules.{told, or_lost}
-use Rattle.cw_types.specs.declared.logs.LogName.TheVariants.{Txn, Config}
+use Rattle.cw_types.specs.declared.logs.LogName.TheVariants.{Txn}
 use Rattle.cw_model.specs.EventsLeading.{fence_one}
 use Rattle.cw_herder.proofs.Asked.{fenced, fence-rule, fence-left}
 use Rattle.cw_herder.proofs.Ticked.{lost-tick}

@@ -1,9 +1,8 @@
-use Rattle.std.proofs.Common.{◌≡◌, ◌∙◌, ℕ, Bool, Result, Ok, Err, true, false, IsSome, length, sym, ap, subst}
-use Rattle.cw_types.specs.declared.ids.Epoch.{Epoch}
+use Rattle.std.proofs.Common.{◌∙◌, ℕ, Result, Ok, sym, ap}
 use Rattle.cw_model.specs.declared.fault.WorldFault.{WorldFault}
 use Rattle.cw_model.specs.declared.tick.Tick.TheVariants as outcome
 use Rattle.cw_model.specs.TickRules.{told, or_lost}
-use Rattle.cw_types.specs.declared.logs.LogName.TheVariants.{Txn, Config}
+use Rattle.cw_types.specs.declared.logs.LogName.TheVariants.{Config}
 use Rattle.cw_model.specs.EventsLeading.{append_fence}
 use Rattle.cw_herder.proofs.Asked.{all_fenced, fenced-rule, fence-done}
 use Rattle.cw_herder.proofs.Ticked.{lost-tick}

@@ -1,12 +1,11 @@
-use Rattle.std.proofs.Common.{◌≡◌, ◌∙◌, ◌<◌, ℕ, Bool, List, Option, Result, Ok, Err, length, sym, ap, subst}
+use Rattle.std.proofs.Common.{◌∙◌, ℕ, Result, Ok, sym, ap, subst}
 use Rattle.cw_types.specs.declared.logs.LogName.TheVariants.{Config}
-use Rattle.cw_disk.specs.declared.device.Disk.{Ghosts}
 use Rattle.cw_rest.specs.Seen.{KeyedValues}
 use Rattle.cw_model.specs.declared.fault.WorldFault.{WorldFault}
 use Rattle.cw_model.specs.declared.tick.Tick.TheVariants as outcome
 use Rattle.cw_model.specs.EventsLeading.{append_config, MayAppendConfig}
 use Rattle.cw_model.specs.Lookups.{seen}
-use Rattle.cw_model.specs.Proposals.{proposal_of, task_records, commit_records}
+use Rattle.cw_model.specs.Proposals.{proposal_of, task_records}
 use Rattle.cw_model.specs.TickRules.{told, or_lost}
 use Rattle.cw_world.specs.World.{Writes}
 use Rattle.cw_herder.proofs.Asked.{proposed, propose-rule, lead-there}

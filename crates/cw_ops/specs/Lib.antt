@@ -1,0 +1,4 @@
+pub mod Requests
+pub mod Named
+pub mod Answering
+pub mod Faults
