@@ -76,7 +76,7 @@ pub(crate) fn turn_behind(last: Option<u32>) -> usize
 }
 
 /// The parts of a task, in its order.
-pub(crate) fn parts_of(instance: &Instance) -> &[PartKey]
+pub fn parts_of(instance: &Instance) -> &[PartKey]
     ensures { result.now ≡ parts_of instance.now }
 {
     match &instance.task {
@@ -86,7 +86,7 @@ pub(crate) fn parts_of(instance: &Instance) -> &[PartKey]
 }
 
 /// A task's position in the part of a turn.
-pub(crate) fn position_at(instance: &Instance, turn: usize) -> u64
+pub fn position_at(instance: &Instance, turn: usize) -> u64
     ensures { result ≡ position_at turn instance.now }
 {
     match instance.positions.as_slice().get(turn) {

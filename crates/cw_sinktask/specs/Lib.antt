@@ -1,0 +1,3 @@
+pub mod Poured
+pub mod Gathered
+pub mod Sinks

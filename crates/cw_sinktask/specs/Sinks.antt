@@ -1,0 +1,77 @@
+-- What a step of a sink's task does to the world and to the outlet: where it polls, it puts what it gathers into its
+-- file, and then the world knows that (Kafka Connect's WorkerSinkTask hands out before it commits an offset).
+use Rattle.std.specs.Prelude.{◌≡◌, ◌≤◌, ℕ, Bool, true, false, List, Option, Some, None, is_some, Result, Ok, Err, if◌then◌else◌}
+use Rattle.cw_types.specs.Faults.{Rose}
+use Rattle.cw_io.specs.declared.outlet.Outlet as outlet
+use Rattle.cw_io.specs.Shelf.{Files}
+use Rattle.cw_disk.specs.declared.device.Disk.{Ghosts}
+use Rattle.cw_model.specs.declared.did.Did.{Did}
+use Rattle.cw_model.specs.declared.instance.InstancePhase.{InstancePhase}
+use Rattle.cw_model.specs.declared.instance.InstancePhase.TheVariants as phase
+use Rattle.cw_model.specs.Lookups.{instance_of}
+use Rattle.cw_model.specs.Polls.{Delivery, gathered}
+use Rattle.cw_model.specs.State.{Cluster}
+use Rattle.cw_model.specs.Steps.{step, waits}
+use Rattle.cw_world.specs.World.{WorldState, Acts}
+use Rattle.cw_sinktask.specs.declared.fault.SinkFault.{SinkFault}
+use Rattle.cw_sinktask.specs.declared.fault.SinkFault.TheVariants.{World, Outlet}
+use Rattle.cw_sinktask.specs.Gathered.{file_of}
+use Rattle.cw_sinktask.specs.Poured.{poured, IsPouredInPart}
+
+-- whether an instance polls next
+abbrev pub is_polling : InstancePhase → Bool
+is_polling phase.Connector = false
+is_polling phase.New = false
+is_polling phase.Inited = false
+is_polling phase.Verified = false
+is_polling phase.Polling = true
+is_polling phase.Produced = false
+is_polling phase.Offered = false
+is_polling phase.Delivered = false
+is_polling phase.Failed = false
+is_polling phase.Ended = false
+
+-- what a sink's task hands out at its next step, where it does
+abbrev pub hands_out : ℕ → Cluster → Option Delivery
+hands_out i s =
+    if waits (instance_of i s) s then None else
+    if is_polling (instance_of i s).phase then gathered (instance_of i s) s.batches else None
+
+-- files with what is handed out at the end of the one of this name
+abbrev pub with_delivery : (file : List ℕ) → Option Delivery → Files → Files
+with_delivery file None files = files
+with_delivery file (Some d) files = poured file d.lines files
+
+-- a first part of what is handed out was put into its file
+pub record IsCutOff (i : ℕ) (s : Cluster) (held left : Files) : Type 0 where
+  pub delivery : Delivery
+  pub is : hands_out i s ≡ Some delivery
+  pub part : IsPouredInPart (file_of (instance_of i s)) delivery.lines held left
+
+-- what a step leaves of the outlet's files
+abbrev pub Leaves : ℕ → Cluster → Result Did SinkFault → (held left : Files) → Type 0
+Leaves i s (Ok did) held left = left ≡ with_delivery (file_of (instance_of i s)) (hands_out i s) held
+Leaves i s (Err (World fault)) held left = left ≡ held
+Leaves i s (Err Outlet) held left = IsCutOff i s held left
+
+-- what a step does to the world: what the model's step does, and nothing where the outlet failed
+abbrev pub ActsOrNot : {D : Type 0} → Ghosts D → ℕ → (old new : WorldState D) → Result Did SinkFault → Type 0
+ActsOrNot D i old new (Ok did) = Acts D (step old.setting i) old new (Ok did)
+ActsOrNot D i old new (Err (World fault)) = Acts D (step old.setting i) old new (Err fault)
+ActsOrNot D i old new (Err Outlet) = new ≡ old
+
+-- where the outlet failed, its count of faults rose
+abbrev pub IsCounted : (before after : ℕ) → Result Did SinkFault → Type 0
+IsCounted before after (Ok did) = Unit {0}
+IsCounted before after (Err (World fault)) = Unit {0}
+IsCounted before after (Err Outlet) = Rose before after
+
+-- what a step of a sink's task does
+pub record Sinks {D U : Type 0} (G : Ghosts D) (O : outlet.Ghosts U) (i : ℕ) (old new : WorldState D) (before after : U)
+    (result : Result Did SinkFault) : Type 0 where
+  pub world : ActsOrNot G i old new result
+  pub files : (held : Files) → O.files before ≡ Some held →
+      (left : Files) × (O.files after ≡ Some left) × Leaves i old.state result held left
+  pub told : is_some (O.files after) ≡ is_some (O.files before)
+  pub later : O.faults before ≤ O.faults after
+  pub counted : IsCounted (O.faults before) (O.faults after) result

@@ -1,0 +1,4 @@
+pub mod Many
+pub mod Batches
+pub mod Scanned
+pub mod Handed

@@ -1,0 +1,3 @@
+pub mod Told
+pub mod Staying
+pub mod Stepped
