@@ -1,8 +1,11 @@
 -- Where a line is left on its way, what it did is a run.
-use Rattle.std.proofs.Common.{◌≡◌, ◌⊎◌, inl, inr, ℕ, true, IsSome, refl, sym, subst}
+use Rattle.std.proofs.Common.{◌≡◌, ◌⊎◌, inl, inr, ℕ, List, true, Option, Some, None, Result, Ok, Err, IsSome, refl, sym, subst}
 use Rattle.cw_script.specs.declared.directive.Directive.{Directive}
 use Rattle.cw_script.specs.declared.directive.Directive.TheVariants.{Init, Commit, Spawn, Kill, Deaf, Hear, Expire, Clock, Tick, Step, Settle, Rest, Held, Member, Take, Compact}
+use Rattle.cw_script.specs.declared.fault.LineKind.{LineKind}
+use Rattle.cw_script.specs.Lines.{line_of}
 use Rattle.cw_script.specs.Spelling.{IsSayable}
+use Rattle.cw_script.proofs.Sayable.{line_sayable}
 use Rattle.cw_route.specs.HeldNames.{HoldsName}
 use Rattle.cw_route.specs.declared.call.Call.{Call}
 use Rattle.cw_rest.specs.Calls.{Deed, reads, reads_configs, writes_configs, writes_offsets, restarts, deed_of}
@@ -11,10 +14,11 @@ use Rattle.cw_model.specs.State.{Setting, Cluster}
 use Rattle.cw_model.specs.Facts.{AreFacts}
 use Rattle.cw_model.specs.Lookups.{row_of}
 use Rattle.cw_model.specs.Runs as step
-use Rattle.cw_cluster.specs.Amid.{IsAmid, written}
+use Rattle.cw_cluster.specs.Amid.{IsAmid}
 use Rattle.cw_cluster.specs.Directives.{does}
 use Rattle.cw_cluster.specs.Reaches.{Reaches, HaveNames}
-use Rattle.cw_cluster.specs.Requests.{seen_now, would_succeed, call_of}
+use Rattle.cw_cluster.specs.Rules.{IsSaidAmid, IsLineAmid}
+use Rattle.cw_cluster.specs.Requests.{seen_now, would_succeed, call_of, written}
 use Rattle.cw_cluster.proofs.BodyTexts.{call-written}
 use Rattle.cw_cluster.proofs.LineRuns.{directive-runs, request-named}
 use Rattle.cw_cluster.proofs.Reaching.{stays, makes}
@@ -57,3 +61,12 @@ module _ (setting : Setting) (feeds : HaveNames setting) (s : Cluster) (f : AreF
   amid-runs (Member w) t is amid = either-run (Member w) t is amid
   amid-runs (Take topic from) t is amid = either-run (Take topic from) t is amid
   amid-runs (Compact name) t is amid = either-run (Compact name) t is amid
+
+  said-amid-runs : (result : Result (Option Directive) LineKind) (t : Cluster) → ((d : Directive) → result ≡ Ok (Some d) → IsSayable d) → IsSaidAmid setting result s t → Reaches setting s t
+  said-amid-runs (Ok (Some d)) t is amid = amid-runs d t (is d refl) amid.1
+  said-amid-runs (Ok None) t is amid = absurd amid
+  said-amid-runs (Err kind) t is amid = absurd amid
+
+  pub line-amid-runs : (number : ℕ) (line : List ℕ) (t : Cluster) → IsLineAmid setting number line s t → Reaches setting s t
+  line-amid-runs number line t (inl same) = subst (Reaches setting s) (sym same) (stays setting s)
+  line-amid-runs number line t (inr amid) = said-amid-runs (line_of line) t (λ d is. line_sayable line d is) amid

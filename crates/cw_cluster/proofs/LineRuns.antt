@@ -22,13 +22,13 @@ use Rattle.cw_model.specs.Facts.{AreFacts}
 use Rattle.cw_model.specs.EventsRaw.{MayRawCommit}
 use Rattle.cw_model.specs.EventsCompaction.{MayCompact}
 use Rattle.cw_model.specs.Runs as step
-use Rattle.cw_cluster.specs.declared.end.DriveEnd.{DriveEnd}
-use Rattle.cw_cluster.specs.declared.end.DriveEnd.TheVariants as ends
-use Rattle.cw_cluster.specs.Plays as plays
+use Rattle.cw_lines.specs.declared.end.DriveEnd.{DriveEnd}
+use Rattle.cw_lines.specs.declared.end.DriveEnd.TheVariants as ends
+use Rattle.cw_lines.specs.Plays as plays
 use Rattle.cw_cluster.proofs.BodyTexts.{call-written}
 use Rattle.cw_cluster.specs.Answers.{Told, pair_of}
 use Rattle.cw_cluster.specs.Directives.{does}
-use Rattle.cw_cluster.specs.Plays.{Played, within_limits, most_lines, most_bytes}
+use Rattle.cw_lines.specs.Plays.{Played, within_limits, most_lines, most_bytes}
 use Rattle.cw_cluster.specs.Reaches.{Reaches, HaveNames}
 use Rattle.cw_cluster.specs.Requests.{call_or, call_of}
 use Rattle.cw_cluster.specs.Run.{missing, played, play_unless, play_said, play_line}
@@ -61,7 +61,7 @@ each-ends : (pairs : List PartEnd) → AllByRecursion PairFits pairs → AllByRe
 each-ends [] fit = tt
 each-ends (p ∷ pairs) fit = (fit.0.to, each-ends pairs fit.1)
 
-pairs-may : (n epoch : ℕ) (pairs : List PartEnd) → IsCommit n epoch pairs → MayRawCommit n (map pair_of pairs)
+pub pairs-may : (n epoch : ℕ) (pairs : List PartEnd) → IsCommit n epoch pairs → MayRawCommit n (map pair_of pairs)
 pairs-may n epoch pairs is = record {
   some = omega (arith, is.named.some, length-map pairs pair_of);
   few = omega (arith, is.named.few, length-map pairs pair_of);

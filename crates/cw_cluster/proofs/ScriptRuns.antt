@@ -2,10 +2,10 @@
 use Rattle.std.proofs.Common.{ℕ, ◌+◌, ◌∷◌, [], Bool, true, false, List, Option, Some, None, nat_lt, length, take, if◌then◌else◌}
 use Rattle.cw_model.specs.State.{Setting, Cluster}
 use Rattle.cw_model.specs.Facts.{AreFacts}
-use Rattle.cw_cluster.specs.declared.end.DriveEnd.{DriveEnd}
-use Rattle.cw_cluster.specs.declared.end.DriveEnd.TheVariants.{TooLong}
-use Rattle.cw_cluster.specs.Lines.{lines_of}
-use Rattle.cw_cluster.specs.Plays.{Played, passed, stopped, goes_on as played_on, most_lines, most_bytes, play, play_last}
+use Rattle.cw_lines.specs.declared.end.DriveEnd.{DriveEnd}
+use Rattle.cw_lines.specs.declared.end.DriveEnd.TheVariants.{TooLong}
+use Rattle.cw_lines.specs.Lines.{lines_of}
+use Rattle.cw_lines.specs.Plays.{Played, passed, stopped, goes_on as played_on, most_lines, most_bytes, play, play_last}
 use Rattle.cw_cluster.specs.Reaches.{Reaches, HaveNames}
 use Rattle.cw_cluster.specs.Run.{play_line, run, run_of_lines}
 use Rattle.cw_cluster.proofs.LineRuns.{line-runs}

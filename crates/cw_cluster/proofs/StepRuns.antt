@@ -72,40 +72,40 @@ stays-producer i s done stays =
     let own : ℕ = epoch_in (instance_of i s).epoch in let last : ℕ = last_epoch (tid_of (instance_of i s).item) s in
     stays-either s (own == last) done (refused (fault.Fenced own last) s) stays (stays-refused s (fault.Fenced own last))
 
-init-stays : (i : ℕ) (s : Cluster) → Stays s (init i s)
+pub init-stays : (i : ℕ) (s : Cluster) → Stays s (init i s)
 init-stays i s =
     let tid : Tid = tid_of (instance_of i s).item in
     stays-instance i s _ (stays-room s (changes_instance i (with_epoch (next_epoch tid s)) (with_entries (Bump tid ∷ []) s)) (fits_entries (Bump tid ∷ []) s) (next_epoch tid s) _)
 
-verify-stays : (i : ℕ) (s : Cluster) → Stays s (verify i s)
+pub verify-stays : (i : ℕ) (s : Cluster) → Stays s (verify i s)
 verify-stays i s =
     let own : Instance = instance_of i s in let name : List ℕ = (task_id_of own.item).connector in
     stays-instance i s _ (stays-either s (is_stale own s) _ _ (stays-refused s _)
     (stays-either s (is_pending name s.configs) _ _ (stays-refused s fault.PendingFence) (stays-done s (changes_instance i (in_phase phase.Verified) s) own.generation)))
 
-fetch-stays : (i : ℕ) (s : Cluster) → Stays s (fetch i s)
+pub fetch-stays : (i : ℕ) (s : Cluster) → Stays s (fetch i s)
 fetch-stays i s = stays-instance i s _ (stays-done s (changes_instance i (at_positions (map (λ part. end_or_start part s.entries) (parts_of (instance_of i s)))) s) tt)
 
-produce-stays : (setting : Setting) (i : ℕ) (cut : TaskCut) (s : Cluster) → Stays s (produce setting i cut s)
+pub produce-stays : (setting : Setting) (i : ℕ) (cut : TaskCut) (s : Cluster) → Stays s (produce setting i cut s)
 produce-stays setting i cut s =
     let own : Instance = instance_of i s in let batch : DataEntry = batch_of setting.feeds own cut in
     stays-instance i s _ (stays-producer i s _ (stays-either s (is_bad_cut setting.feeds own cut) _ _ (stays-refused s (fault.BadCut cut.from cut.to))
     (stays-room s (changes_instance i (taking phase.Produced cut) (with_data batch s)) (fits_data batch s) tt _)))
 
-put_offsets-stays : (i : ℕ) (s : Cluster) → Stays s (put_offsets i s)
+pub put_offsets-stays : (i : ℕ) (s : Cluster) → Stays s (put_offsets i s)
 put_offsets-stays i s =
     let own : Instance = instance_of i s in let entry : OffsetEntry = Records (tag_of own) (offset_record (span_of own) s ∷ []) in
     stays-instance i s _ (stays-producer i s _ (stays-room s (changes_instance i (in_phase phase.Offered) (with_offset entry s)) (fits_offset entry s) tt _))
 
-commit-stays : (i : ℕ) (s : Cluster) → Stays s (commit i s)
+pub commit-stays : (i : ℕ) (s : Cluster) → Stays s (commit i s)
 commit-stays i s =
     let own : Instance = instance_of i s in let frame : List Entry = Commit (tag_of own) own.generation (span_of own ∷ []) ∷ [] in
     stays-instance i s _ (stays-producer i s _ (stays-room s (changes_instance i (committed_to (cut_of own).to) (with_entries frame s)) (fits_entries frame s) (span_of own) _))
 
-deliver-stays : (i turn to : ℕ) (s : Cluster) → Stays s (deliver i turn to s)
+pub deliver-stays : (i turn to : ℕ) (s : Cluster) → Stays s (deliver i turn to s)
 deliver-stays i turn to s = stays-instance i s _ (stays-done s (changes_instance i (taking phase.Delivered (sink_cut turn to (instance_of i s))) s) tt)
 
-put_sink-stays : (i to : ℕ) (s : Cluster) → Stays s (put_sink i to s)
+pub put_sink-stays : (i to : ℕ) (s : Cluster) → Stays s (put_sink i to s)
 put_sink-stays i to s =
     let own : Instance = instance_of i s in let frame : List Entry = sink_offset own to ∷ [] in
     stays-instance i s _ (stays-producer i s _ (stays-room s (changes_instance i (polling_from phase.Polling to) (with_entries frame s)) (fits_entries frame s) tt _))

@@ -17,8 +17,8 @@ use Rattle.cw_model.specs.State.{Cluster}
 use Rattle.cw_model.specs.Answers.{Answer}
 use Rattle.cw_model.specs.StepText.{step_text}
 use Rattle.cw_model.specs.TickText.{words, tick_text, log_text}
-use Rattle.cw_cluster.specs.declared.end.DriveEnd.{DriveEnd}
-use Rattle.cw_cluster.specs.declared.end.DriveEnd.TheVariants as ends
+use Rattle.cw_lines.specs.declared.end.DriveEnd.{DriveEnd}
+use Rattle.cw_lines.specs.declared.end.DriveEnd.TheVariants as ends
 
 -- an answer's text, or what ends the script; and the cluster behind it
 abbrev pub Told : Type 0

@@ -7,11 +7,11 @@ use Rattle.cw_script.specs.declared.fault.LineKind.{LineKind}
 use Rattle.cw_script.specs.declared.fault.LineKind.TheVariants.{NoWorker, NoInstance}
 use Rattle.cw_script.specs.Lines.{line_of}
 use Rattle.cw_model.specs.State.{Setting, Cluster}
-use Rattle.cw_cluster.specs.declared.end.DriveEnd.{DriveEnd}
-use Rattle.cw_cluster.specs.declared.end.DriveEnd.TheVariants.{BadScript}
+use Rattle.cw_lines.specs.declared.end.DriveEnd.{DriveEnd}
+use Rattle.cw_lines.specs.declared.end.DriveEnd.TheVariants.{BadScript}
 use Rattle.cw_cluster.specs.Directives.{does}
-use Rattle.cw_cluster.specs.Plays as plays
-use Rattle.cw_cluster.specs.Plays.{Played, passed, stopped, within_limits}
+use Rattle.cw_lines.specs.Plays as plays
+use Rattle.cw_lines.specs.Plays.{Played, passed, stopped, within_limits}
 
 -- ---- whom a directive names
 

@@ -5,7 +5,7 @@ use Rattle.std.specs.List.{flat_map}
 use Rattle.cw_model.specs.State.{Cluster}
 use Rattle.cw_model.specs.Cases.{empty_cluster}
 use Rattle.cw_model.specs.WorkedCases.{setting}
-use Rattle.cw_cluster.specs.Plays.{Played}
+use Rattle.cw_lines.specs.Plays.{Played}
 use Rattle.cw_cluster.specs.Run.{run}
 
 -- a script: its lines, each with the answer that is wanted

@@ -4,7 +4,7 @@ ghost use Rattle.cw_types.specs.declared.logs.LogName.TheVariants.{Config};
 ghost use Rattle.cw_script.specs.declared.fault.LineKind.TheVariants.{NoWord, NoWorker, NoInstance};
 ghost use Rattle.cw_model.specs.Cases.{empty_cluster};
 ghost use Rattle.cw_model.specs.WorkedCases.{setting};
-ghost use Rattle.cw_cluster.specs.declared.end.DriveEnd.TheVariants.{BadScript, Full};
+ghost use Rattle.cw_lines.specs.declared.end.DriveEnd.TheVariants.{BadScript, Full};
 ghost use Rattle.cw_cluster.specs.Run.{run};
 ghost use Rattle.cw_cluster.specs.Scripts.{lines, wanted, IsAnswered, played_with, empty_feeds, worn, out_of_offsets, creation};
 ghost use Rattle.cw_cluster.specs.Scripts.{producers, member, killed, created, settled, altered, zombie, compacted};

@@ -1,5 +1,5 @@
 //! Laws of scripts: whatever the lines, what they do is a run of the cluster's events, and so every state is safe.
-ghost use Rattle.std.specs.Prelude.{ℕ, List};
+ghost use Rattle.std.specs.Prelude.{◌≡◌, ℕ, List};
 ghost use Rattle.cw_model.specs.State.{Setting, Cluster};
 ghost use Rattle.cw_model.specs.Facts.{AreFacts};
 ghost use Rattle.cw_model.specs.Grows.{Grows};
@@ -9,9 +9,11 @@ ghost use Rattle.cw_model.specs.Steps.{step};
 ghost use Rattle.cw_model.specs.Tick.{tick};
 ghost use Rattle.cw_script.specs.declared.directive.Directive.{Directive};
 ghost use Rattle.cw_script.specs.Spelling.{IsSayable};
+ghost use Rattle.cw_lines.specs.Players.{player_of};
 ghost use Rattle.cw_cluster.specs.Amid.{IsAmid};
 ghost use Rattle.cw_cluster.specs.Reaches.{Reaches, HaveNames};
 ghost use Rattle.cw_cluster.specs.Run.{play_line, run, run_of_lines};
+ghost use Rattle.cw_cluster.specs.Rules.{cluster_rules};
 ghost use Rattle.cw_cluster.specs.Settling.{settles};
 
 /// A worker's tick and an instance's step make events, each where it may be made.
@@ -45,6 +47,14 @@ pub fn each_script_is_a_run()
 pub fn each_interrupted_line_is_a_run()
     ensures { (setting : Setting) (directive : Directive) (s t : Cluster) → HaveNames setting → AreFacts setting s →
         IsSayable directive → IsAmid setting directive s t → Reaches setting s t }
+{}
+
+/// The same of any line that was left on its way, and what is played by the rules is what the run of the script says.
+pub fn each_line_on_its_way_is_a_run()
+    ensures amid { (setting : Setting) (number : ℕ) (line : List ℕ) (s t : Cluster) → HaveNames setting →
+        AreFacts setting s → cluster_rules.amid setting number line s t → Reaches setting s t }
+    ensures same { (setting : Setting) (number : ℕ) (line : List ℕ) (s : Cluster) →
+        player_of cluster_rules setting number line s ≡ play_line setting number line s }
 {}
 
 /// A state that is reached has all facts again, and so every state of a run is safe and has a true journal; and what

@@ -3,12 +3,24 @@
 //! Its definitions say the run of a script as a function of the cluster's state, the feeds and the lines: the answers,
 //! byte for byte, and the state behind each. Its public functions carry worked cases and laws of that run, each as a
 //! contract: every state of a run is safe.
-//! It stands on the cluster's model and its laws, on the calls of the REST API and on the language of scripts.
+//! Of the code that is to play a script it has, inside the crate and called by nothing yet, what settles a cluster, and
+//! what plays the directives that make one event or look.
+//! It stands on the world and the steps over it, on the cluster's model and its laws, on the calls of the REST API and
+//! on the language of scripts.
 #![tactic(auto)]
 
+mod answers;
 mod cases;
-mod end;
+mod directives;
+mod events;
 mod laws;
+mod outcome;
+mod settling;
+mod stepping;
+mod texts;
+mod turn;
+mod turning;
+mod wording;
 
 pub use cases::{
     cluster_settles_half_way, connector_is_created_once_there_is_a_leader,
@@ -17,8 +29,8 @@ pub use cases::{
     request_is_answered_that_a_log_is_full, source_is_read_again_from_an_altered_offset,
     zombie_is_fenced,
 };
-pub use end::DriveEnd;
+pub use cw_lines::DriveEnd;
 pub use laws::{
-    each_interrupted_line_is_a_run, each_line_is_a_run, each_script_is_a_run, settling_is_a_run,
-    turns_are_runs, what_is_reached_is_safe,
+    each_interrupted_line_is_a_run, each_line_is_a_run, each_line_on_its_way_is_a_run,
+    each_script_is_a_run, settling_is_a_run, turns_are_runs, what_is_reached_is_safe,
 };

@@ -14,8 +14,8 @@ use Rattle.percent_encoding.specs.Percent.{percent_decode}
 use Rattle.cw_bytes.specs.Spelling.{word, long, text}
 use Rattle.cw_plugin.specs.Tasks.{groups, task_config}
 use Rattle.cw_feed.specs.Cut.{lengths_behind, fitting}
-use Rattle.cw_cluster.specs.Lines.{lines_of}
-use Rattle.cw_cluster.specs.Plays.{play, play_last}
+use Rattle.cw_lines.specs.Lines.{lines_of}
+use Rattle.cw_lines.specs.Plays.{play, play_last}
 use Rattle.cw_cluster.specs.Settling.{rounds}
 use Rattle.cw_cluster.proofs.cases.connector_is_created_once_there_is_a_leader.Goals as goal
 

@@ -1,8 +1,8 @@
 use Rattle.std.proofs.Common.{refl}
 use Rattle.std.specs.Fmt.{digits}
 use Rattle.cw_bytes.specs.Spelling.{word, long, text}
-use Rattle.cw_cluster.specs.Lines.{lines_of}
-use Rattle.cw_cluster.specs.Plays.{play, play_last}
+use Rattle.cw_lines.specs.Lines.{lines_of}
+use Rattle.cw_lines.specs.Plays.{play, play_last}
 use Rattle.cw_cluster.proofs.cases.full_log_ends_the_script.Goals as goal
 
 pub returns-clause-stop : goal.returns-clause-stop

@@ -3,8 +3,8 @@ use Rattle.std.specs.Fmt.{digits}
 use Rattle.json.specs.Print.{escape_byte}
 use Rattle.matchit.specs.Seek.{param_step, seek}
 use Rattle.percent_encoding.specs.Percent.{percent_decode}
-use Rattle.cw_cluster.specs.Lines.{lines_of}
-use Rattle.cw_cluster.specs.Plays.{play, play_last}
+use Rattle.cw_lines.specs.Lines.{lines_of}
+use Rattle.cw_lines.specs.Plays.{play, play_last}
 use Rattle.cw_cluster.proofs.cases.killed_worker_answers_nothing.Goals as goal
 
 pub returns : goal.returns

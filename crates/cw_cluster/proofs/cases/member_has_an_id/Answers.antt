@@ -3,9 +3,9 @@ use Rattle.std.specs.Fmt.{digits}
 use Rattle.sha1.specs.Sha1.{first_words, schedule, rounds, compress, hash_after, digest_bytes, sha1}
 use Rattle.uuid.specs.Text.{by_index}
 use Rattle.cw_bytes.specs.Spelling.{word, long, text}
-use Rattle.cw_cluster.specs.Lines.{lines_of}
+use Rattle.cw_lines.specs.Lines.{lines_of}
 use Rattle.cw_cluster.specs.Looks.{uuid_of}
-use Rattle.cw_cluster.specs.Plays.{play, play_last}
+use Rattle.cw_lines.specs.Plays.{play, play_last}
 use Rattle.cw_cluster.proofs.cases.member_has_an_id.Goals as goal
 
 pub returns : goal.returns

@@ -1,0 +1,75 @@
+//! A step of an instance, whichever it is of.
+ghost use Rattle.std.specs.Prelude.{◌≡◌, ◌≤◌, ◌<◌, length, is_some, Err};
+ghost use Rattle.cw_types.specs.Faults.{Rose};
+ghost use Rattle.cw_script.specs.declared.directive.Directive.TheVariants as directive;
+ghost use Rattle.cw_model.specs.Tasks.{is_sink};
+ghost use Rattle.cw_cluster.specs.Amid.{IsAmid};
+ghost use Rattle.cw_cluster.specs.Directives.{does};
+ghost use Rattle.cw_cluster.specs.Playing.{IsPlayed, played_told};
+ghost use Rattle.cw_cluster.specs.Stepping.{Steps};
+
+use crate::answers::Answers;
+use crate::outcome::Outcome;
+use cw_disk::Disk;
+use cw_io::Outlet;
+use cw_lines::DriveEnd;
+use cw_model::{Did, Instance};
+use cw_sinktask::SinkFault;
+use cw_world::World;
+use std::alloc::Global;
+
+/// An instance takes a step: a sink's task may put records into its file, which lies in the outlet; any other leaves
+/// the outlet as it is. Where the file can't be written, the world is as it was.
+pub(crate) fn step<D: Disk, U: Outlet>(
+    alloc: Global,
+    world: &mut World<D>,
+    i: u64,
+    outlet: &mut U,
+) -> Result<Did, SinkFault>
+    requires { i < length world.old.state.instances }
+    ensures { Steps D.Disk U.Outlet i world.old world.new outlet.old outlet.new result }
+{
+    if is_sink(world.cluster().instance_of(i)) {
+        return cw_sinktask::step(alloc, world, i, outlet);
+    }
+    match cw_sourcetask::poll_step(world, i) {
+        Ok(did) => Ok(did),
+        Err(fault) => Err(SinkFault::World(fault)),
+    }
+}
+
+/// Plays the directive that an instance takes a step, and says what it did.
+pub(crate) fn play_step<D: Disk, U: Outlet>(
+    alloc: Global,
+    world: &mut World<D>,
+    i: u64,
+    outlet: &mut U,
+    answers: &mut Answers,
+) -> Result<(), DriveEnd>
+    requires { i < length world.old.state.instances }
+    ensures played { IsPlayed D.Disk (played_told (does world.old.setting (directive.Step i) world.old.state))
+        (IsAmid world.old.setting (directive.Step i) world.old.state)
+        world.old world.new answers.old answers.new result }
+    ensures told { is_some (U.files outlet.new) ≡ is_some (U.files outlet.old) }
+    ensures later { U.faults outlet.old ≤ U.faults outlet.new }
+    ensures rose { result ≡ Err DriveEnd.OutletFault → Rose (U.faults outlet.old) (U.faults outlet.new) }
+{
+    match step(alloc, world, i, outlet) {
+        Ok(did) => {
+            let done = Ok(Outcome::Step(i, did));
+            answers.say(world.cluster().group_name(), i, done)
+        }
+        Err(SinkFault::World(fault)) => { answers.say(world.cluster().group_name(), i, Err(fault)) }
+        Err(SinkFault::Outlet) => Err(DriveEnd::OutletFault),
+    }
+}
+
+// Whether an instance is a task of a sink.
+fn is_sink(instance: &Instance) -> bool
+    ensures { result ≡ is_sink instance.now }
+{
+    match &instance.task {
+        Some(task) => !task.class.is_source(),
+        None => false,
+    }
+}
