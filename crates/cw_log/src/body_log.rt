@@ -21,6 +21,9 @@ pub trait BodyLog {
     /// How many bytes it may have.
     ghost limit: { Self → ℕ };
 
+    /// The number of its kind.
+    ghost kind: { Self → ℕ };
+
     /// The number of its side.
     ghost number: { Self → ℕ };
 
@@ -62,6 +65,7 @@ pub trait BodyLog {
         ensures limit { limit self.new ≡ limit self.old }
         ensures shut { is_shut self.new ≡ is_shut self.old }
         ensures failed { last_failed self.new ≡ last_failed self.old }
+        ensures kind { kind self.new ≡ kind self.old }
         ensures side_number { number self.new ≡ number self.old }
         ensures later { (side : ℕ) → faults self.old side ≤ faults self.new side }
         ensures any_moment { AddsOf moment stands_since self.old self.new (λ list. ⊥) };
@@ -91,6 +95,7 @@ pub trait BodyLog {
         ensures same { OnErr result ((bodies self.new ≡ bodies self.old) × (size self.new ≡ size self.old) ×
             (bytes self.new ≡ bytes self.old)) }
         ensures limit { limit self.new ≡ limit self.old }
+        ensures kind { kind self.new ≡ kind self.old }
         ensures side_number { number self.new ≡ number self.old }
         ensures later { (side : ℕ) → faults self.old side ≤ faults self.new side }
         ensures any_moment { is_shut self.old ≡ false → (before : List (List ℕ)) → bodies self.old ≡ Some before →
@@ -121,6 +126,7 @@ pub trait BodyLog {
         ensures bytes { bytes self.new ≡ bytes self.old }
         ensures limit { limit self.new ≡ limit self.old }
         ensures shut { is_shut self.new ≡ is_shut self.old }
+        ensures kind { kind self.new ≡ kind self.old }
         ensures side_number { number self.new ≡ number self.old }
         ensures later { (side : ℕ) → faults self.old side ≤ faults self.new side }
         ensures any_moment { AddsOf moment stands_since self.old self.new (λ list. ⊥) };

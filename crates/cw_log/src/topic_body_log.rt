@@ -15,6 +15,8 @@ impl<D: Disk> BodyLog for TopicLog<D> {
 
     ghost limit = { λ l. l.limit };
 
+    ghost kind = { λ l. l.kind };
+
     ghost number = { λ l. l.number };
 
     ghost ready = { λ l. l.ready };

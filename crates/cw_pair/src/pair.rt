@@ -79,6 +79,13 @@ impl<D: Disk> PairLog<D> {
             (faults_of D.Disk (record { a = fault.a; b = fault.b }) fault.side))
             ((D.holds fault.a ≡ D.holds a) × (D.holds fault.b ≡ D.holds b)) fault.cause) }
 
+        // No disk's count of faults fell.
+        ensures later { MatchResult result
+            (λ pair. (side : ℕ) →
+            faults_of D.Disk (record { a = a; b = b }) side ≤ faults_of D.Disk (disks_of pair) side)
+            (λ fault. (side : ℕ) → faults_of D.Disk (record { a = a; b = b }) side ≤
+            faults_of D.Disk (record { a = fault.a; b = fault.b }) side) }
+
         // A stop at any moment of the call leaves what it might have left before, or two files that stand for the same.
         ensures any_moment { Told D.Disk a (λ file_a. Told D.Disk b (λ file_b. MatchResult result
             (λ pair. Opens D.Disk (kind_of name) file_a file_b (record { a = a; b = b }) (disks_of pair))
@@ -119,6 +126,13 @@ impl<D: Disk> PairLog<D> {
             (Rose (faults_of D.Disk (record { a = a; b = b }) fault.side)
             (faults_of D.Disk (record { a = fault.a; b = fault.b }) fault.side))
             ((D.holds fault.a ≡ D.holds a) × (D.holds fault.b ≡ D.holds b)) fault.cause) }
+
+        // No disk's count of faults fell.
+        ensures later { MatchResult result
+            (λ pair. (side : ℕ) →
+            faults_of D.Disk (record { a = a; b = b }) side ≤ faults_of D.Disk (disks_of pair) side)
+            (λ fault. (side : ℕ) → faults_of D.Disk (record { a = a; b = b }) side ≤
+            faults_of D.Disk (record { a = fault.a; b = fault.b }) side) }
 
         // A stop at any moment of the call leaves what it might have left before, or two files that stand for the same.
         ensures any_moment { Told D.Disk a (λ file_a. Told D.Disk b (λ file_b. MatchResult result

@@ -16,6 +16,8 @@ impl<D: Disk> BodyLog for PairLog<D> {
 
     ghost limit = { λ p. p.log.limit };
 
+    ghost kind = { λ p. p.log.kind };
+
     ghost number = { λ p. p.log.number };
 
     ghost ready = { λ p. p.log.ready };
