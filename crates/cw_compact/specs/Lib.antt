@@ -4,3 +4,4 @@ pub mod Stored
 pub mod Outcomes
 pub mod Bodies
 pub mod Filled
+pub mod Left

@@ -84,8 +84,8 @@ fn compact_before(
     keep(alloc, frames, &lasts)
 }
 
-// How many records there are. No memory holds more than the greatest number.
-fn count_of(frames: &[Listed<Applied>]) -> Result<usize, AllocError>
+/// How many records there are. No memory holds more than the greatest number.
+pub(crate) fn count_of(frames: &[Listed<Applied>]) -> Result<usize, AllocError>
     ensures { IfOk result (λ count. count ≡ length (joined frames.now)) }
 {
     let mut count = 0usize;

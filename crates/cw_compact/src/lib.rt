@@ -11,9 +11,12 @@
 
 mod bodies;
 mod clean;
+mod copies;
+mod frames;
 mod key;
 mod keyed;
 mod lasts;
+mod left;
 mod offsets;
 mod outcomes;
 mod stored;
@@ -21,5 +24,8 @@ mod stored;
 mod tests;
 
 pub use bodies::{read_frames, write_frames};
+pub use copies::{copy_entries, copy_offset, copy_txn, list_frames, list_offsets, list_txn};
+pub use frames::{hang, list_of, one_frame};
 pub use keyed::{compact_configs, compact_statuses};
+pub use left::{LeftOffsets, LeftRecords, left_configs, left_offsets, left_statuses};
 pub use offsets::compact_offsets;

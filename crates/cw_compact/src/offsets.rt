@@ -5,6 +5,7 @@ ghost use Rattle.std.specs.Option.{option_map_or};
 ghost use Rattle.std.specs.BTreeSet.{contains};
 ghost use Rattle.cw_types.specs.declared.ids.Tag.{Tag};
 ghost use Rattle.cw_types.specs.Same.{tag_order};
+ghost use Rattle.cw_bytes.specs.Frames.{joined};
 ghost use Rattle.cw_txn.specs.declared.entry.Entry.{Entry};
 ghost use Rattle.cw_offset.specs.declared.body.OffsetEntry.{OffsetEntry};
 ghost use Rattle.cw_offset.specs.Log.{has_records};
@@ -23,18 +24,18 @@ use cw_types::{Listed, Tag, Verdict};
 use std::alloc::{AllocError, Global};
 use std::collections::BTreeSet;
 
-/// The offset log as a compaction leaves it, beside the transaction list: the records of aborted transactions go, and
-/// those of committed ones whose part is set or replaced behind their commit. A marker stays where a record of its
-/// transaction does.
+/// The offset log as a compaction leaves it, beside the frames of the transaction log: the records of aborted
+/// transactions go, and those of committed ones whose part is set or replaced behind their commit. A marker stays where
+/// a record of its transaction does.
 pub fn compact_offsets(
     alloc: Global,
-    entries: &[Entry],
+    txn: &[Listed<Entry>],
     log: Vec<OffsetEntry>,
 ) -> Result<Vec<OffsetEntry>, AllocError>
-    ensures { IfOk result (λ kept. kept.items ≡ compact_offsets entries.now log.items) }
+    ensures { IfOk result (λ kept. kept.items ≡ compact_offsets (joined txn.now) log.items) }
 {
     let stored = stored_in(alloc, log.as_slice())?;
-    let outcomes = outcomes_of(alloc, &stored, entries)?;
+    let outcomes = outcomes_of(alloc, &stored, txn)?;
     let kept = keep_records(alloc, &outcomes, log)?;
     let filled = filled_in(alloc, kept.as_slice())?;
     keep_entries(alloc, &filled, kept)
@@ -52,15 +53,34 @@ fn stored_in(alloc: Global, log: &[OffsetEntry]) -> Result<Stored, AllocError>
 }
 
 // What the entries say, beside what the log has.
-fn outcomes_of(alloc: Global, stored: &Stored, entries: &[Entry]) -> Result<Outcomes, AllocError>
+fn outcomes_of(
+    alloc: Global,
+    stored: &Stored,
+    txn: &[Listed<Entry>],
+) -> Result<Outcomes, AllocError>
     ensures { IfOk result (λ outcomes. (log : List OffsetEntry) → AreStored stored.now.rows log →
-        AreOutcomes outcomes log entries.now) }
+        AreOutcomes outcomes log (joined txn.now)) }
 {
     let mut outcomes = Outcomes::new(alloc);
+    for frame in txn {
+        note_entries(&mut outcomes, stored, frame.as_slice())?;
+    }
+    Ok(outcomes)
+}
+
+// The entries of a frame more.
+fn note_entries(
+    outcomes: &mut Outcomes,
+    stored: &Stored,
+    entries: &[Entry],
+) -> Result<(), AllocError>
+    ensures { OnOk result ((log : List OffsetEntry) (before : List Entry) → AreStored stored.now.rows log →
+        AreOutcomes outcomes.old log before → AreOutcomes outcomes.new log (before ++ entries.now)) }
+{
     for entry in entries {
         outcomes.note(stored, entry)?;
     }
-    Ok(outcomes)
+    Ok(())
 }
 
 // The entries with the records that stay.

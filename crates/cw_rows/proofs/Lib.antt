@@ -24,3 +24,5 @@ pub mod Told
 pub mod OffsetDue
 pub mod Opening
 pub mod Replays
+pub mod Few
+pub mod PutLeft

@@ -81,9 +81,9 @@ IsWritableRecord r = is_record r.key r.value ≡ true
 abbrev pub have_offsets : List ConfigRecord → Bool
 have_offsets records = list_all (λ r. is_offset r.offset) records
 
--- records with their fields, and the bytes of these
-pub record IsSpelled (records : List ConfigRecord) (applied : List Applied) (body : List ℕ) : Type 0 where
-  pub applied_are : applied ≡ map config_applied records
+-- records, the list of the one frame of their fields, and the bytes of these
+pub record IsSpelled (records : List ConfigRecord) (applied : List (List Applied)) (body : List ℕ) : Type 0 where
+  pub applied_are : applied ≡ map config_applied records ∷ []
   pub body_is : body ≡ config_body records
 
 -- ---- what is told of a log that has no offset left

@@ -4,6 +4,7 @@ use Rattle.cw_types.specs.declared.ids.Epoch.{Epoch}
 use Rattle.cw_txn.specs.declared.entry.Entry.{Entry}
 use Rattle.cw_txn.specs.declared.entry.Entry.TheVariants.{Commit}
 use Rattle.cw_txn.specs.Transactions.{Transactions}
+use Rattle.cw_txn.specs.Body.{entries_bytes}
 use Rattle.cw_config.specs.declared.records.ConfigRecord.{ConfigRecord}
 use Rattle.cw_config.specs.View.{generation_of, fenced_count_of}
 use Rattle.cw_model.specs.declared.instance.Instance.{Instance}
@@ -12,6 +13,11 @@ use Rattle.cw_model.specs.declared.row.Fencing.{Fencing}
 use Rattle.cw_model.specs.EventsLeading.{going_on}
 use Rattle.cw_model.specs.EventsRaw.{raw_span, raw_commit_of}
 use Rattle.cw_model.specs.Tasks.{tag_of, span_of}
+
+-- a frame's entries, the list of the one frame that they are, and its bytes
+pub record IsEntryFrame (entries : List Entry) (list : List (List Entry)) (body : List ℕ) : Type 0 where
+  pub list_is : list ≡ entries ∷ []
+  pub body_is : body ≡ entries_bytes entries
 
 -- memory was taken for this entry first
 abbrev pub IsReadied : Entry → Transactions → Type 0

@@ -12,3 +12,4 @@ pub mod Statuses
 pub mod Opened
 pub mod Offsets
 pub mod Replaying
+pub mod Left

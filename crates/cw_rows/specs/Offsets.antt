@@ -63,10 +63,12 @@ pub record IsOffsetLog (frames : List OffsetEntry) (next : Option ℕ) (calls : 
   pub next_is : IsNext (next_after (flat_map offset_records frames)) next
   pub told : AreTold frames calls
 
--- a frame's body, and the calls that tell of it
-pub record IsFrame (entry : OffsetEntry) (body : List ℕ) (calls : List OffsetCall) : Type 0 where
-  pub body_is : body ≡ entry_bytes entry
-  pub calls_are : calls ≡ told_in entry
+-- the list of a frame's entry, its body, and the calls that tell of it
+pub record IsFrame (entry : OffsetEntry) (list : List OffsetEntry) (body : List ℕ) (calls : List OffsetCall) : Type 0
+  where
+    pub list_is : list ≡ entry ∷ []
+    pub body_is : body ≡ entry_bytes entry
+    pub calls_are : calls ≡ told_in entry
 
 -- ---- calls for which memory was taken, the next one first
 

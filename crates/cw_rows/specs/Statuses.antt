@@ -43,9 +43,9 @@ pub record IsStatusList (list : List StampedStatus) (applied : List StatusRecord
   pub behind : next ≡ offset_from (next_in list)
   pub many : count ≡ min (length list) (2 ^ 64 - 1)
 
--- what a frame holds of its status
-pub record IsStatusFrame (status : StampedStatus) (records : List Applied) (body : List ℕ) : Type 0 where
-  pub spelled : records ≡ status_applied status ∷ []
+-- what a frame holds of its status: the list of the one frame of its one record, and the bytes
+pub record IsStatusFrame (status : StampedStatus) (records : List (List Applied)) (body : List ℕ) : Type 0 where
+  pub spelled : records ≡ (status_applied status ∷ []) ∷ []
   pub bytes : body ≡ status_body (status ∷ [])
 
 -- the status of an instance, by what its worker has read of the config log

@@ -1,5 +1,5 @@
 //! A frame of the config log.
-ghost use Rattle.std.specs.Prelude.{◌≡◌, ◌≤◌, ◌<◌, ◌+◌, ◌^◌, ℕ, length, map, true, IfOk, option_map};
+ghost use Rattle.std.specs.Prelude.{◌≡◌, ◌≤◌, ◌<◌, ◌+◌, ◌^◌, ◌∷◌, [], ℕ, length, map, true, IfOk, option_map};
 ghost use Rattle.std.specs.List.{AllByRecursion};
 ghost use Rattle.cw_bytes.specs.Spelling.{IsRecord, IsValue, AreRecords};
 ghost use Rattle.cw_keys.specs.Configs.{is_record};
@@ -7,17 +7,20 @@ ghost use Rattle.cw_model.specs.Bodies.{config_applied, config_body};
 ghost use Rattle.cw_rows.specs.Configs.{IsWritable, IsWritableRecord, recorded, records_from, first_of};
 
 use cw_bytes::{Applied, write_record_body};
+use cw_compact::one_frame;
 use cw_config::ConfigRecord;
 use cw_keys::{ConfigKey, ConfigValue, write_config};
 use cw_types::Listed;
 use std::alloc::{AllocError, Global};
+use std::collections::LinkedList;
 use std::marker::Model;
 
-/// A frame of the config log: its records, and its bytes. Clauses see its records.
+/// A frame of the config log: its records, the list of their fields, which is hung to the log's frames, and its bytes.
+/// Clauses see its records.
 #[derive(Drop)]
 pub struct ConfigFrame {
     records: Vec<ConfigRecord>,
-    applied: Listed<Applied>,
+    applied: LinkedList<Listed<Applied>>,
     body: Vec<u8>,
 }
 
@@ -46,9 +49,10 @@ impl ConfigFrame {
             return Err(AllocError);
         }
         let body = write_record_body(alloc, applied.as_slice())?;
+        let applied = one_frame(alloc, Listed::new(applied))?;
         Ok(ConfigFrame {
             records,
-            applied: Listed::new(applied),
+            applied,
             body,
         })
     }
@@ -68,18 +72,12 @@ impl ConfigFrame {
         self.records.as_slice()
     }
 
-    /// Their fields.
-    pub(crate) fn applied(&self) -> &Listed<Applied>
-        ensures { result.now ≡ map config_applied self.now }
+    /// Its records, and the list that is hung to the log's frames, once its bytes stand in the log.
+    pub(crate) fn into_parts(self) -> (Vec<ConfigRecord>, LinkedList<Listed<Applied>>)
+        ensures records { result.0.items ≡ self }
+        ensures list { result.1 ≡ map config_applied self ∷ [] }
     {
-        &self.applied
-    }
-
-    /// Its records, once its bytes stand in the log.
-    pub(crate) fn into_records(self) -> Vec<ConfigRecord>
-        ensures { result.items ≡ self }
-    {
-        self.records
+        (self.records, self.applied)
     }
 
     /// The offset of its first record.

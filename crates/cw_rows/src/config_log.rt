@@ -17,6 +17,7 @@ ghost use Rattle.cw_rows.specs.Writes.{bytes_in, Readies, Refuses, Puts};
 use crate::cluster::Cluster;
 use crate::config_frame::{ConfigFrame, frame_from};
 use crate::topics::Topics;
+use cw_compact::hang;
 use cw_config::ConfigState;
 use cw_keys::{ConfigKey, ConfigValue};
 use cw_model::WorldFault;
@@ -144,6 +145,7 @@ impl Topics {
 
     /// Puts in a frame that stands in the log. It takes no memory.
     pub(crate) fn put_configs(&mut self, frame: ConfigFrame)
+        requires few { length self.old.config.frames < 2 ^ 62 }
         requires some { 1 ≤ length frame }
         requires ready { self.old.ready_configs ≡ frame }
         requires accepted { AreAccepted self.old.configs frame }
@@ -155,8 +157,9 @@ impl Topics {
           ready_configs = [];
         } }
     {
-        self.config = self.config.and(frame.applied());
-        self.configs.put(frame.into_records());
+        let (records, list) = frame.into_parts();
+        hang(&mut self.config, list);
+        self.configs.put(records);
     }
 }
 

@@ -1,6 +1,6 @@
 //! Entries of the transaction list: their memory is taken first, and they are put in once their frame stands in the
 //! log.
-ghost use Rattle.std.specs.Prelude.{◌≡◌, ◌+◌, ◌++◌, ◌∷◌, [], IfOk, OnOk};
+ghost use Rattle.std.specs.Prelude.{◌≡◌, ◌<◌, ◌+◌, ◌^◌, ◌++◌, ◌∷◌, [], length, IfOk, OnOk};
 ghost use Rattle.cw_types.specs.declared.ids.PartKey.{PartKey};
 ghost use Rattle.cw_types.specs.declared.ids.Tid.{Tid as TidValue};
 ghost use Rattle.cw_model.specs.Updates.{tid_of};
@@ -14,8 +14,9 @@ ghost use Rattle.cw_txn.specs.Legal.{EachFrom, ChainsBehind, epoch_of};
 use crate::fenced::tid_of;
 use crate::frame::EntryFrame;
 use crate::topics::Topics;
+use cw_compact::hang;
 use cw_txn::{Coordinator, Entry, SetOffset};
-use cw_types::{Epoch, Item, Span, Tag, Tid};
+use cw_types::{Epoch, Item, Listed, Span, Tag, Tid};
 use std::alloc::{AllocError, Global};
 
 impl Topics {
@@ -72,43 +73,49 @@ impl Topics {
     }
 
     /// Puts in a bump that stands in the log. Its answer is the new epoch.
-    pub(crate) fn put_bump(&mut self, frame: &EntryFrame) -> Epoch
-        requires bump { (tid : TidValue) × (frame.now ≡ entry.Bump tid ∷ []) }
-        requires ready { self.old.entries.reserved ≡ frame.now }
+    pub(crate) fn put_bump(&mut self, frame: EntryFrame) -> Epoch
+        requires bump { (tid : TidValue) × (frame ≡ entry.Bump tid ∷ []) }
+        requires ready { self.old.entries.reserved ≡ frame }
+        requires few { length self.old.txn < 2 ^ 62 }
         ensures put { self.new ≡ record self.old {
-          txn = self.old.txn ++ frame.now ∷ [];
-          entries = record { entries = self.old.entries.entries ++ frame.now; reserved = [] };
+          txn = self.old.txn ++ frame ∷ [];
+          entries = record { entries = self.old.entries.entries ++ frame; reserved = [] };
         } }
-        ensures epoch { (tid : TidValue) → frame.now ≡ entry.Bump tid ∷ [] →
+        ensures epoch { (tid : TidValue) → frame ≡ entry.Bump tid ∷ [] →
             result ≡ record { 0 = epoch_of tid self.old.entries.entries + 1 } }
     {
-        self.put_entries(frame);
-        self.epoch_given(frame)
+        let entries = self.put_entries(frame);
+        self.epoch_given(entries.as_slice())
     }
 
     // The epoch that a bump gave.
-    fn epoch_given(&self, frame: &EntryFrame) -> Epoch
-        ensures { (tid : TidValue) → frame.now ≡ entry.Bump tid ∷ [] →
+    fn epoch_given(&self, entries: &[Entry]) -> Epoch
+        ensures { (tid : TidValue) → entries.now ≡ entry.Bump tid ∷ [] →
             result.0 ≡ epoch_of tid self.now.entries.entries }
     {
-        match frame.entries() {
+        match entries {
             [Entry::Bump(tid)] => Epoch(self.coordinator.epoch_of(tid)),
             _ => Epoch(0),
         }
     }
 
-    /// Puts in a frame that stands in the log. Each entry may stand behind those before it.
-    pub(crate) fn put_entries(&mut self, frame: &EntryFrame)
-        requires ready { self.old.entries.reserved ≡ frame.now }
-        requires allowed { EachFrom IsAllowedBehind self.old.entries.entries frame.now }
-        requires chains { (part : PartKey) → EachFrom (ChainsBehind part) self.old.entries.entries frame.now }
-        ensures { self.new ≡ record self.old {
-          txn = self.old.txn ++ frame.now ∷ [];
-          entries = record { entries = self.old.entries.entries ++ frame.now; reserved = [] };
+    /// Puts in a frame that stands in the log. Each entry may stand behind those before it. It takes no memory, and
+    /// gives the entries back.
+    pub(crate) fn put_entries(&mut self, frame: EntryFrame) -> Listed<Entry>
+        requires ready { self.old.entries.reserved ≡ frame }
+        requires allowed { EachFrom IsAllowedBehind self.old.entries.entries frame }
+        requires chains { (part : PartKey) → EachFrom (ChainsBehind part) self.old.entries.entries frame }
+        requires few { length self.old.txn < 2 ^ 62 }
+        ensures put { self.new ≡ record self.old {
+          txn = self.old.txn ++ frame ∷ [];
+          entries = record { entries = self.old.entries.entries ++ frame; reserved = [] };
         } }
+        ensures entries { result ≡ frame }
     {
-        self.txn = self.txn.and(&frame.entries);
-        put_each(&mut self.coordinator, frame.entries());
+        let (entries, list) = frame.into_parts();
+        hang(&mut self.txn, list);
+        put_each(&mut self.coordinator, entries.as_slice());
+        entries
     }
 }
 

@@ -73,7 +73,7 @@ impl Cluster {
         requires room { has_room (bytes_in log.Txn self.old.state) (frame_of (entries_bytes frame)) ≡ true }
         ensures { Puts (claim_lead w) result self.old self.new }
     {
-        let epoch = self.topics.put_bump(&frame);
+        let epoch = self.topics.put_bump(frame);
         self.crew.lead(w, epoch);
         epoch
     }
@@ -112,7 +112,7 @@ impl Cluster {
         requires room { has_room (bytes_in log.Txn self.old.state) (frame_of (entries_bytes frame.frame)) ≡ true }
         ensures { Puts (fence_one w name.now) result self.old self.new }
     {
-        let epoch = self.topics.put_bump(&frame.frame);
+        let epoch = self.topics.put_bump(frame.frame);
         let index = frame.fencing.next;
         self.crew.set_fencing(w, one_more(frame.fencing));
         (index, epoch)
@@ -154,7 +154,7 @@ impl Cluster {
         requires room { has_room (bytes_in log.Txn self.old.state) (frame_of (entries_bytes frame)) ≡ true }
         ensures { Puts (set_offsets w name.now list.now) tt self.old self.new }
     {
-        self.topics.put_entries(&frame);
+        self.topics.put_entries(frame);
     }
 }
 

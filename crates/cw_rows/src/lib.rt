@@ -6,13 +6,15 @@
 //! journal. An event that writes to a log is in two halves: one makes its tests and takes all its memory, the other
 //! puts in what then stands in the log, and can't fail. These are so: init, commit, claim_lead, fence_one, set_offsets,
 //! put_sink, raw_init and raw_commit of the transaction log; append_config and append_fence of the config log;
-//! put_status of the status log; produce, and the marks of the data log; put_offsets, and the marks of the offset log.
+//! put_status of the status log; produce, and the marks of the data log; put_offsets, and the marks of the offset log;
+//! and the compactions of the config, the status and the offset log.
 //! It stands on the model and on the pieces whose states it keeps.
 #![tactic(auto)]
 
 mod agreeing;
 mod batches;
 mod cluster;
+mod compacting;
 mod config_frame;
 mod config_log;
 mod configs;
@@ -23,11 +25,11 @@ mod entries;
 mod fenced;
 mod fencing_record;
 mod frame;
-mod histories;
 mod items;
 mod joining;
 mod journaling;
 mod leading;
+mod left_offsets;
 mod lookups;
 mod marking;
 mod numbers;
@@ -58,6 +60,7 @@ pub use config_frame::ConfigFrame;
 pub use data_frame::DataFrame;
 pub use frame::EntryFrame;
 pub use leading::FenceFrame;
+pub use left_offsets::LeftOffsetLog;
 pub use offset_frame::OffsetFrame;
 pub use status_frame::StatusFrame;
 pub use topics::{Sides, Topics};

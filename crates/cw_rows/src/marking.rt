@@ -81,8 +81,7 @@ impl Cluster {
         requires room { has_room (bytes_in log.Offsets self.old.state) (frame_of (offset_body frame)) ≡ true }
         ensures { Puts (mark log.Offsets) result self.old self.new }
     {
-        self.topics.put_offset(&frame);
-        match frame.into_entry() {
+        match self.topics.put_offset(frame) {
             OffsetEntry::Mark(mark) => (mark.tag, mark.committed),
             OffsetEntry::Records { .. } => unreachable!(),
         }

@@ -60,7 +60,7 @@ impl Cluster {
         requires room { has_room (bytes_in log.Offsets self.old.state) (frame_of (entry_bytes frame)) ≡ true }
         ensures { Puts (put_offsets i) tt self.old self.new }
     {
-        self.topics.put_offset(&frame);
+        self.topics.put_offset(frame);
         self.crew.set_phase(i, InstancePhase::Offered);
     }
 

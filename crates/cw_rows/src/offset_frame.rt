@@ -9,16 +9,20 @@ ghost use Rattle.cw_offset.specs.declared.call.OffsetCall.TheVariants as call;
 ghost use Rattle.cw_offset.specs.declared.body.OffsetEntry.TheVariants as entry;
 
 use cw_bytes::{Applied, Mark};
+use cw_compact::{copy_offset, one_frame};
 use cw_keys::{KeyFault, read_offset, read_part};
 use cw_offset::{OffsetCall, OffsetEntry, write_offsets};
 use cw_types::{Listed, PartKey, Tag};
 use std::alloc::{AllocError, Global};
+use std::collections::LinkedList;
 use std::marker::Model;
 
-/// A frame of the offset log: its entry, its bytes, and the calls that tell of it. Clauses see its entry.
+/// A frame of the offset log: its entry, the list of a copy of it, which is hung to the log's frames, its bytes, and the
+/// calls that tell of it. Clauses see its entry.
 #[derive(Drop)]
 pub struct OffsetFrame {
     entry: OffsetEntry,
+    list: LinkedList<OffsetEntry>,
     calls: Vec<OffsetCall>,
     body: Vec<u8>,
 }
@@ -31,7 +35,7 @@ impl Model for OffsetFrame {
 
     ghost view = { λ f. f.entry };
 
-    ghost invariant = { λ f. IsFrame f.entry f.body.items f.calls.items };
+    ghost invariant = { λ f. IsFrame f.entry f.list f.body.items f.calls.items };
 }
 
 impl OffsetFrame {
@@ -42,7 +46,13 @@ impl OffsetFrame {
     {
         let body = write_offsets(alloc, &entry)?;
         let calls = calls_of(alloc, &entry)?;
-        Ok(OffsetFrame { entry, calls, body })
+        let list = one_frame(alloc, copy_offset(alloc, &entry)?)?;
+        Ok(OffsetFrame {
+            entry,
+            list,
+            calls,
+            body,
+        })
     }
 
     /// Its bytes.
@@ -53,13 +63,6 @@ impl OffsetFrame {
         self.body.as_slice()
     }
 
-    /// Its entry.
-    pub(crate) fn entry(&self) -> &OffsetEntry
-        ensures { result.now ≡ self.now }
-    {
-        &self.entry
-    }
-
     /// The calls that tell of it.
     pub(crate) fn calls(&self) -> &[OffsetCall]
         ensures { result.now ≡ told_in self.now }
@@ -67,11 +70,14 @@ impl OffsetFrame {
         self.calls.as_slice()
     }
 
-    /// Its entry, once its bytes stand in the log.
-    pub(crate) fn into_entry(self) -> OffsetEntry
-        ensures { result ≡ self }
+    /// Its entry, the list that is hung to the log's frames, and the calls that tell of it, once its bytes stand in the
+    /// log.
+    pub(crate) fn into_parts(self) -> (OffsetEntry, LinkedList<OffsetEntry>, Vec<OffsetCall>)
+        ensures entry { result.0 ≡ self }
+        ensures list { result.1 ≡ self ∷ [] }
+        ensures calls { result.2.items ≡ told_in self }
     {
-        self.entry
+        (self.entry, self.list, self.calls)
     }
 }
 

@@ -1,28 +1,33 @@
 //! The offset log as it is kept in memory: what is told of its frames, and its next offset.
-ghost use Rattle.std.specs.Prelude.{◌≡◌, ◌+◌, ◌++◌, ◌∷◌, [], ℕ, max, Some, false, IfOk, OnOk, OnErr, option_copied};
-ghost use Rattle.std.specs.List.{flat_map};
+ghost use Rattle.std.specs.Prelude.{◌≡◌, ◌<◌, ◌+◌, ◌^◌, ◌++◌, ◌∷◌, [], ℕ, max, length, Some, false, IfOk, OnOk, OnErr, option_copied};
+ghost use Rattle.std.specs.List.{AllByRecursion, flat_map};
 ghost use Rattle.cw_types.specs.declared.ids.Tag.{Tag as TagValue};
 ghost use Rattle.cw_bytes.specs.Frames.{joined, next_after};
 ghost use Rattle.cw_txn.specs.Legal.{verdict_of};
 ghost use Rattle.cw_offset.specs.declared.call.OffsetCall.TheVariants as call;
 ghost use Rattle.cw_offset.specs.Log.{offset_tag, offset_records, is_marked, first_unmarked};
+ghost use Rattle.cw_offset.specs.Body.{HasRecords};
+ghost use Rattle.cw_offset.specs.Compaction.{compact_offsets};
 ghost use Rattle.cw_offset.specs.Replay.{replayed, told_in};
+ghost use Rattle.cw_rows.specs.Left.{IsLeftLog};
 ghost use Rattle.cw_rows.specs.Offsets.{IsNext, IsFirst, with_call, raised};
 
-use crate::histories::past_of;
+use crate::left_offsets::LeftOffsetLog;
 use crate::offset_frame::OffsetFrame;
 use crate::replaying::replay;
 use cw_bytes::Applied;
+use cw_compact::{copy_txn, hang, left_offsets, list_of, list_offsets};
 use cw_offset::{OffsetCall, OffsetEntry, OffsetState};
 use cw_txn::{Coordinator, Entry};
-use cw_types::{Listed, PartKey, Past, Tag};
+use cw_types::{Listed, PartKey, Tag};
 use std::alloc::{AllocError, Global};
+use std::collections::LinkedList;
 use std::marker::Model;
 
-/// The offset log. What is only told of a frame takes no memory.
+/// The offset log.
 #[derive(Drop)]
 pub(crate) struct OffsetLog {
-    frames: Past<OffsetEntry>,
+    frames: LinkedList<OffsetEntry>,
     side: u64,
     next: Option<u64>,
     state: OffsetState,
@@ -33,9 +38,9 @@ impl Model for OffsetLog {
 
     ghost Value = { OffsetLogState };
 
-    ghost view = { λ l. record { frames = l.frames.items; side = l.side; told = l.state } };
+    ghost view = { λ l. record { frames = l.frames; side = l.side; told = l.state } };
 
-    ghost invariant = { λ l. IsOffsetLog l.frames.items l.next l.state.calls };
+    ghost invariant = { λ l. IsOffsetLog l.frames l.next l.state.calls };
 }
 
 impl OffsetLog {
@@ -44,7 +49,7 @@ impl OffsetLog {
         ensures { result ≡ record { frames = []; side = 1; told = record { calls = []; reserved = [] } } }
     {
         OffsetLog {
-            frames: Past::new(),
+            frames: LinkedList::new(alloc),
             side: 1,
             next: Some(0),
             state: OffsetState::new(alloc),
@@ -68,10 +73,12 @@ impl OffsetLog {
         }) }
     {
         let state = replay(alloc, frames, txn, coordinator)?;
+        let next = next_of(frames);
+        let frames = list_offsets(alloc, frames)?;
         Ok(OffsetLog {
-            frames: past_of(frames),
+            frames,
             side,
-            next: next_of(frames),
+            next,
             state,
         })
     }
@@ -101,23 +108,84 @@ impl OffsetLog {
         reserve_each(&mut self.state, calls)
     }
 
-    /// Puts in a frame that stands in the log.
-    pub(crate) fn put(&mut self, frame: &OffsetFrame)
-        requires ready { self.old.told.reserved ≡ told_in frame.now }
-        requires unmarked { (tag : TagValue) → offset_tag frame.now ≡ Some tag →
+    /// Puts in a frame that stands in the log, and gives its entry back. It takes no memory.
+    pub(crate) fn put(&mut self, frame: OffsetFrame) -> OffsetEntry
+        requires ready { self.old.told.reserved ≡ told_in frame }
+        requires unmarked { (tag : TagValue) → offset_tag frame ≡ Some tag →
             is_marked tag self.old.frames ≡ false }
-        ensures { self.new ≡ record self.old {
-          frames = self.old.frames ++ frame.now ∷ [];
-          told = record { calls = self.old.told.calls ++ told_in frame.now; reserved = [] };
+        requires few { length self.old.frames < 2 ^ 62 }
+        ensures put { self.new ≡ record self.old {
+          frames = self.old.frames ++ frame ∷ [];
+          told = record { calls = self.old.told.calls ++ told_in frame; reserved = [] };
         } }
+        ensures entry { result ≡ frame }
     {
-        let entry = frame.entry();
-        let next = next_behind(self.next, entry);
-        let frames = self.frames.and(entry);
-        tell_each(&mut self.state, frame.calls());
-        self.next = next;
-        self.frames = frames;
+        let (entry, list, calls) = frame.into_parts();
+        self.next = next_behind(self.next, &entry);
+        tell_each(&mut self.state, calls.as_slice());
+        hang(&mut self.frames, list);
+        entry
     }
+
+    /// What a compaction leaves of it, beside the frames of the transaction log.
+    pub(crate) fn left(
+        &self,
+        alloc: Global,
+        txn: &LinkedList<Listed<Entry>>,
+        coordinator: &Coordinator,
+    ) -> Result<LeftOffsetLog, AllocError>
+        requires whole { coordinator.now.entries ≡ joined txn.now }
+        requires written { AllByRecursion HasRecords (compact_offsets (joined txn.now) self.now.frames) }
+        ensures { IfOk result (IsLeftLog self.now.frames (compact_offsets (joined txn.now) self.now.frames)) }
+    {
+        let txn = copy_txn(alloc, txn)?;
+        let left = left_offsets(alloc, txn.as_slice(), &self.frames)?;
+        let log = log_of(alloc, left.frames, self.side, txn.as_slice(), coordinator)?;
+        Ok(LeftOffsetLog {
+            log,
+            bodies: left.bodies,
+            before: left.before,
+            after: left.after,
+        })
+    }
+
+    /// The same on the side of this number.
+    pub(crate) fn on_side(self, side: u64) -> OffsetLog
+        ensures { result ≡ record self { side = side } }
+    {
+        OffsetLog {
+            frames: self.frames,
+            side,
+            next: self.next,
+            state: self.state,
+        }
+    }
+}
+
+// The log of frames that a compaction has left, behind the entries of the transaction log's frames.
+fn log_of(
+    alloc: Global,
+    frames: Vec<OffsetEntry>,
+    side: u64,
+    txn: &[Listed<Entry>],
+    coordinator: &Coordinator,
+) -> Result<OffsetLog, AllocError>
+    requires { coordinator.now.entries ≡ joined txn.now }
+    ensures { IfOk result (λ log. log ≡ record {
+      frames = frames.items;
+      side = side;
+      told = record { calls = replayed (joined txn.now) frames.items; reserved = [] };
+    }) }
+{
+    let state = replay(alloc, frames.as_slice(), txn, coordinator)?;
+    let next = next_of(frames.as_slice());
+    let frames = list_of(alloc, frames)?;
+    Ok(OffsetLog {
+        frames,
+        side,
+        next,
+        state,
+    })
 }
 
 // The next offset behind entries.

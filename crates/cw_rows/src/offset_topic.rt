@@ -1,5 +1,5 @@
 //! One entry more in the offset log: its memory is taken, and once it stands there it is put in.
-ghost use Rattle.std.specs.Prelude.{◌≡◌, ◌++◌, ◌∷◌, [], Some, false, IfOk, OnOk};
+ghost use Rattle.std.specs.Prelude.{◌≡◌, ◌<◌, ◌^◌, ◌++◌, ◌∷◌, [], length, Some, false, IfOk, OnOk};
 ghost use Rattle.std.specs.List.{flat_map};
 ghost use Rattle.cw_types.specs.declared.ids.Tag.{Tag as TagValue};
 ghost use Rattle.cw_bytes.specs.Frames.{next_after};
@@ -41,21 +41,23 @@ impl Topics {
         Ok(frame)
     }
 
-    /// Puts in an entry that stands in the offset log.
-    pub(crate) fn put_offset(&mut self, frame: &OffsetFrame)
-        requires ready { self.old.offsets.told.reserved ≡ told_in frame.now }
-        requires unmarked { (tag : TagValue) → offset_tag frame.now ≡ Some tag →
+    /// Puts in an entry that stands in the offset log, and gives it back. It takes no memory.
+    pub(crate) fn put_offset(&mut self, frame: OffsetFrame) -> OffsetEntry
+        requires ready { self.old.offsets.told.reserved ≡ told_in frame }
+        requires unmarked { (tag : TagValue) → offset_tag frame ≡ Some tag →
             is_marked tag self.old.offsets.frames ≡ false }
-        ensures { self.new ≡ record self.old {
+        requires few { length self.old.offsets.frames < 2 ^ 62 }
+        ensures put { self.new ≡ record self.old {
           offsets = record self.old.offsets {
-            frames = self.old.offsets.frames ++ frame.now ∷ [];
+            frames = self.old.offsets.frames ++ frame ∷ [];
             told = record {
-              calls = self.old.offsets.told.calls ++ told_in frame.now;
+              calls = self.old.offsets.told.calls ++ told_in frame;
               reserved = [];
             };
           };
         } }
+        ensures entry { result ≡ frame }
     {
-        self.offsets.put(frame);
+        self.offsets.put(frame)
     }
 }

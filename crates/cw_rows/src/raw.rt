@@ -21,7 +21,7 @@ ghost use Rattle.cw_rows.specs.Writes.{bytes_in, Readies, Refuses, Puts};
 
 use crate::cluster::Cluster;
 use crate::fenced::test_epoch;
-use crate::frame::EntryFrame;
+use crate::frame::{EntryFrame, spans_of};
 use crate::topics::Topics;
 use cw_model::WorldFault;
 use cw_txn::{Coordinator, Entry};
@@ -56,7 +56,7 @@ impl Cluster {
         requires room { has_room (bytes_in log.Txn self.old.state) (frame_of (entries_bytes frame)) ≡ true }
         ensures { Puts (raw_init n) result self.old self.new }
     {
-        self.topics.put_bump(&frame)
+        self.topics.put_bump(frame)
     }
 
     /// Takes the memory of a commit of parts up to new ends.
@@ -98,8 +98,8 @@ impl Cluster {
         requires room { has_room (bytes_in log.Txn self.old.state) (frame_of (entries_bytes frame)) ≡ true }
         ensures { Puts (raw_commit n epoch list.now) result self.old self.new }
     {
-        self.topics.put_entries(&frame);
-        spans_in(self.alloc, frame)
+        let entries = self.topics.put_entries(frame);
+        spans_in(self.alloc, entries)
     }
 
     // The spans of parts up to new ends. They are refused where writing has ended, the producer is fenced, or one of
@@ -192,12 +192,12 @@ fn test_spans(spans: &[Span]) -> Result<(), WorldFault>
     Ok(())
 }
 
-// The spans of a commit's frame.
-fn spans_in(alloc: Global, frame: EntryFrame) -> Listed<Span>
+// The spans of a commit.
+fn spans_in(alloc: Global, entries: Listed<Entry>) -> Listed<Span>
     ensures { (tag : TagValue) (generation : ℕ) (spans : List SpanValue) →
-        frame ≡ entry.Commit tag generation spans ∷ [] → result ≡ spans }
+        entries ≡ entry.Commit tag generation spans ∷ [] → result ≡ spans }
 {
-    match frame.into_spans() {
+    match spans_of(entries) {
         Some(spans) => spans,
         None => Listed::new(Vec::new(alloc)),
     }

@@ -16,6 +16,7 @@ use crate::cluster::Cluster;
 use crate::status_frame::StatusFrame;
 use crate::status_log::Stamped;
 use crate::topics::Topics;
+use cw_compact::hang;
 use cw_config::ConfigState;
 use cw_json::Text;
 use cw_keys::{State, StatusValue, Target, fenced_trace, long_line_trace, write_status};
@@ -161,6 +162,7 @@ impl Topics {
 
     // Puts in a status that stands in the log.
     fn put_status(&mut self, frame: StatusFrame)
+        requires few { length self.old.status.frames < 2 ^ 62 }
         requires ready { self.old.statuses.reserved ≡ frame.status ∷ [] }
         requires next { frame.status.offset ≡ next_in self.old.statuses.list }
         ensures { self.new ≡ record self.old {
@@ -171,8 +173,8 @@ impl Topics {
           };
         } }
     {
-        let (status, records) = frame.into_parts();
-        self.status = self.status.and(&records);
+        let (status, list) = frame.into_parts();
+        hang(&mut self.status, list);
         self.statuses.put(status);
     }
 }

@@ -54,7 +54,7 @@ impl Cluster {
         requires room { has_room (bytes_in log.Txn self.old.state) (frame_of (entries_bytes frame)) ≡ true }
         ensures { Puts (put_sink i to) tt self.old self.new }
     {
-        self.topics.put_entries(&frame);
+        self.topics.put_entries(frame);
         self.crew.poll_on(i, to);
     }
 }

@@ -21,7 +21,7 @@ ghost use Rattle.cw_rows.specs.Writes.{bytes_in, Readies, Refuses, Puts};
 
 use crate::cluster::Cluster;
 use crate::crew::cut_of;
-use crate::frame::EntryFrame;
+use crate::frame::{EntryFrame, spans_of};
 use crate::topics::Topics;
 use cw_model::{Instance, WorldFault};
 use cw_txn::Entry;
@@ -59,7 +59,7 @@ impl Cluster {
         requires room { has_room (bytes_in log.Txn self.old.state) (frame_of (entries_bytes frame)) ≡ true }
         ensures { Puts (init i) result self.old self.new }
     {
-        let epoch = self.topics.put_bump(&frame);
+        let epoch = self.topics.put_bump(frame);
         self.crew.init(i, epoch);
         epoch
     }
@@ -95,9 +95,9 @@ impl Cluster {
         requires room { has_room (bytes_in log.Txn self.old.state) (frame_of (entries_bytes frame)) ≡ true }
         ensures { Puts (commit i) result self.old self.new }
     {
-        self.topics.put_entries(&frame);
+        let entries = self.topics.put_entries(frame);
         self.crew.commit(i);
-        span_in(frame)
+        span_in(entries)
     }
 }
 
@@ -171,12 +171,12 @@ fn part_in(parts: &[PartKey], turn: usize) -> Result<PartKey, AllocError>
     }
 }
 
-// The one span of a commit's frame.
-fn span_in(frame: EntryFrame) -> Span
+// The one span of a commit.
+fn span_in(entries: Listed<Entry>) -> Span
     ensures { (tag : TagValue) (generation : ℕ) (span : SpanValue) →
-        frame ≡ entry.Commit tag generation (span ∷ []) ∷ [] → result ≡ span }
+        entries ≡ entry.Commit tag generation (span ∷ []) ∷ [] → result ≡ span }
 {
-    match frame.into_spans() {
+    match spans_of(entries) {
         Some(spans) => last_of(spans),
         None => no_span(),
     }

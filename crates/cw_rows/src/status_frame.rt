@@ -5,17 +5,20 @@ ghost use Rattle.cw_model.specs.Bodies.{status_applied, status_body};
 
 use crate::status_log::Stamped;
 use cw_bytes::{Applied, write_record_body};
+use cw_compact::one_frame;
 use cw_keys::State;
 use cw_status::StatusRecord;
 use cw_types::Listed;
 use std::alloc::{AllocError, Global};
+use std::collections::LinkedList;
 use std::marker::Model;
 
-/// A frame of the status log: its one record, and its bytes. Clauses see the status with its stamp.
+/// A frame of the status log: its one record, the list of its fields, which is hung to the log's frames, and its bytes.
+/// Clauses see the status with its stamp.
 #[derive(Drop)]
 pub struct StatusFrame {
     status: Stamped,
-    records: Listed<Applied>,
+    records: LinkedList<Listed<Applied>>,
     body: Vec<u8>,
 }
 
@@ -46,9 +49,10 @@ impl StatusFrame {
     {
         let records = one_record(alloc, status.stamp, status.status.offset, key, text)?;
         let body = write_record_body(alloc, records.as_slice())?;
+        let records = one_frame(alloc, Listed::new(records))?;
         Ok(StatusFrame {
             status,
-            records: Listed::new(records),
+            records,
             body,
         })
     }
@@ -68,10 +72,10 @@ impl StatusFrame {
         self.status.status.value.state
     }
 
-    /// The status and the record as it is written, once they stand in the log.
-    pub(crate) fn into_parts(self) -> (Stamped, Listed<Applied>)
+    /// The status, and the list that is hung to the log's frames, once its bytes stand in the log.
+    pub(crate) fn into_parts(self) -> (Stamped, LinkedList<Listed<Applied>>)
         ensures status { result.0 ≡ self }
-        ensures records { result.1 ≡ status_applied self ∷ [] }
+        ensures list { result.1 ≡ (status_applied self ∷ []) ∷ [] }
     {
         (self.status, self.records)
     }

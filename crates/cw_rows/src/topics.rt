@@ -12,28 +12,30 @@ ghost use Rattle.cw_txn.specs.Legal.{ChainsBehind, epoch_of};
 ghost use Rattle.cw_types.specs.declared.ids.PartKey.{PartKey};
 
 use crate::configs::Configs;
-use crate::histories::past_of;
 use crate::offset_log::OffsetLog;
 use crate::opened::{configs_of, coordinator_of, data_of};
 use crate::status_log::StatusLog;
 use cw_bytes::Applied;
+use cw_compact::{list_frames, list_txn};
 use cw_config::{ConfigRecord, ConfigState};
 use cw_data::{DataEntry, DataState};
 use cw_offset::OffsetEntry;
 use cw_txn::{Coordinator, Entry};
-use cw_types::{Listed, Past};
+use cw_types::Listed;
 use std::alloc::{AllocError, Global};
+use std::collections::LinkedList;
 use std::marker::Model;
 
-/// What the logs hold, and what follows from it. What is only told of a frame takes no memory.
+/// What the logs hold, and what follows from it. A frame that comes brings its own place in the list of its log's
+/// frames, so that putting it in takes no memory.
 #[derive(Drop)]
 pub struct Topics {
-    pub(crate) config: Past<Listed<Applied>>,
-    config_side: u64,
+    pub(crate) config: LinkedList<Listed<Applied>>,
+    pub(crate) config_side: u64,
     pub(crate) offsets: OffsetLog,
-    pub(crate) status: Past<Listed<Applied>>,
-    status_side: u64,
-    pub(crate) txn: Past<Listed<Entry>>,
+    pub(crate) status: LinkedList<Listed<Applied>>,
+    pub(crate) status_side: u64,
+    pub(crate) txn: LinkedList<Listed<Entry>>,
     pub(crate) statuses: StatusLog,
     pub(crate) configs: Configs,
     pub(crate) coordinator: Coordinator,
@@ -57,10 +59,10 @@ impl Model for Topics {
     ghost Value = { TopicsState };
 
     ghost view = { λ t. record {
-      config = record { frames = t.config.items; side = t.config_side };
+      config = record { frames = t.config; side = t.config_side };
       offsets = t.offsets;
-      status = record { frames = t.status.items; side = t.status_side };
-      txn = t.txn.items;
+      status = record { frames = t.status; side = t.status_side };
+      txn = t.txn;
       configs = t.configs.records;
       statuses = t.statuses;
       entries = t.coordinator;
@@ -85,12 +87,12 @@ impl Topics {
         } }
     {
         Topics {
-            config: Past::new(),
+            config: LinkedList::new(alloc),
             config_side: 1,
             offsets: OffsetLog::new(alloc),
-            status: Past::new(),
+            status: LinkedList::new(alloc),
             status_side: 1,
-            txn: Past::new(),
+            txn: LinkedList::new(alloc),
             statuses: StatusLog::new(alloc),
             configs: Configs::new(alloc),
             coordinator: Coordinator::new(alloc),
@@ -130,18 +132,19 @@ impl Topics {
           ready_configs = [];
         }) }
     {
-        let configs = Configs::opened(alloc, configs_of(alloc, config)?)?;
+        let lists = lists_of(alloc, config, status, txn)?;
+        let configs = configs_in(alloc, config)?;
         let statuses = StatusLog::opened(alloc, status)?;
         let coordinator = coordinator_of(alloc, txn)?;
         let offsets = OffsetLog::opened(alloc, offsets, sides.offsets, txn, &coordinator)?;
         let data = data_of(alloc, batches)?;
         Ok(Topics {
-            config: past_of(config),
+            config: lists.config,
             config_side: sides.config,
             offsets,
-            status: past_of(status),
+            status: lists.status,
             status_side: sides.status,
-            txn: past_of(txn),
+            txn: lists.txn,
             statuses,
             configs,
             coordinator,
@@ -176,4 +179,39 @@ impl Topics {
     {
         self.configs.records()
     }
+}
+
+// The frames of three logs, as they are kept.
+#[derive(Drop)]
+struct Lists {
+    config: LinkedList<Listed<Applied>>,
+    status: LinkedList<Listed<Applied>>,
+    txn: LinkedList<Listed<Entry>>,
+}
+
+// Copies of frames, as they are kept.
+fn lists_of(
+    alloc: Global,
+    config: &[Listed<Applied>],
+    status: &[Listed<Applied>],
+    txn: &[Listed<Entry>],
+) -> Result<Lists, AllocError>
+    ensures config { IfOk result (λ lists. lists.config ≡ config.now) }
+    ensures status { IfOk result (λ lists. lists.status ≡ status.now) }
+    ensures txn { IfOk result (λ lists. lists.txn ≡ txn.now) }
+{
+    Ok(Lists {
+        config: list_frames(alloc, config)?,
+        status: list_frames(alloc, status)?,
+        txn: list_txn(alloc, txn)?,
+    })
+}
+
+// What the records say that the frames of the config log hold.
+fn configs_in(alloc: Global, frames: &[Listed<Applied>]) -> Result<Configs, AllocError>
+    requires { AreAllowedConfigs [] (configs_in frames.now) }
+    ensures { IfOk result (λ configs. configs ≡ record { records = configs_in frames.now; ready = [] }) }
+{
+    let records = configs_of(alloc, frames)?;
+    Configs::opened(alloc, records)
 }

@@ -8,9 +8,10 @@ use Rattle.cw_model.specs.declared.fault.WorldFault.TheVariants.{Memory}
 use Rattle.cw_model.specs.State.{Cluster}
 use Rattle.cw_model.specs.Answers.{Answer}
 use Rattle.cw_model.specs.Reopening.{stored_of}
-use Rattle.cw_world.specs.Logs.{LogsState, HaveSameOthers, HasSameBodies, AddsTo, view_in, list_in}
+use Rattle.cw_world.specs.Logs.{LogsState, HaveSameOthers, HasSameBodies, KeepsOn, AddsTo, view_in, list_in, faults_in}
 use Rattle.cw_world.specs.World.{WorldState, Does, DoesOrWants, Writes, RunsOut, Acts}
 use Rattle.cw_world.proofs.Holding.{nothing-added}
+use Rattle.cw_world.proofs.Keeping.{keeps-all, keeps-untouched}
 use Rattle.cw_world.proofs.Writing.{is-memory, same-view}
 
 is-same : (a b : LogName) → (a ≡ b) ⊎ (a ≢ b)
@@ -75,6 +76,7 @@ module _ {D : Type 0} (G : Ghosts D) where
       name = does.name;
       others = unchanged Config old.logs new.logs does.logs;
       leaves = λ any told is. unadded any old.logs new.logs _ does.logs;
+      keeps = λ any. keeps-all G any old.logs new.logs does.logs;
     }
 
     done-or-wants : (result : Result A WorldFault) → DoesOrWants event old new result →
@@ -95,6 +97,7 @@ module _ {D : Type 0} (G : Ghosts D) where
       name = does.name;
       others = unchanged Config old.logs new.logs does.logs;
       leaves = λ any told is. unadded any old.logs new.logs _ does.logs;
+      keeps = λ any. keeps-all G any old.logs new.logs does.logs;
     }
 
     -- of each log, what a stop leaves behind a write to one of them
@@ -108,6 +111,15 @@ module _ {D : Type 0} (G : Ghosts D) where
         (λ (n : log ≢ any). untouched log any old.logs new.logs _ writes.others n)
         (is-same log any)
 
+    -- and each of them keeps on
+    keeps-any : (log any : LogName) (result : Result A WorldFault) → Writes G log event old new result →
+        KeepsOn (view_in G any old.logs) (view_in G any new.logs) (faults_in G any old.logs) (faults_in G any new.logs)
+    keeps-any log any result writes = ⊎_elim
+        (λ (e : log ≡ any). subst (λ (m : LogName). KeepsOn (view_in G m old.logs) (view_in G m new.logs) (faults_in G m old.logs) (faults_in G m new.logs))
+        e writes.keeps)
+        (λ (n : log ≢ any). keeps-untouched G log any old.logs new.logs writes.others n)
+        (is-same log any)
+
     -- one that writes to a log
     pub writes-acts : (log : LogName) (result : Result A WorldFault) → Writes G log event old new result → Acts G event old new result
     writes-acts log result writes = record {
@@ -117,4 +129,5 @@ module _ {D : Type 0} (G : Ghosts D) where
       name = writes.name;
       others = writes.others;
       leaves = λ any told is. leaves-any log any result told writes is;
+      keeps = λ any. keeps-any log any result writes;
     }

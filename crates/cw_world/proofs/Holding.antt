@@ -8,12 +8,12 @@ use Rattle.cw_log.specs.Log.{length_of}
 use Rattle.cw_log.specs.State.{LogState, StandsSince}
 use Rattle.cw_pair.specs.State.{PairState, StandsSince as PairLeaves}
 use Rattle.cw_laws.proofs.Disks.{length_of-push}
-use Rattle.cw_model.specs.State.{Cluster}
+use Rattle.cw_model.specs.State.{Cluster, Paired}
 use Rattle.cw_model.specs.StandsFor.{Stored}
 use Rattle.cw_model.specs.Reopening.{stored_of}
 use Rattle.cw_rows.specs.Kept.{HasSameLogs}
 use Rattle.cw_rows.specs.Writes.{bytes_in, with_body}
-use Rattle.cw_world.specs.Logs.{LogsState, LogView, HoldsList, Holds, HoldAll, HaveSameOthers, HasSameBodies, AddsTo, LeavesNow, view_in, list_in}
+use Rattle.cw_world.specs.Logs.{LogsState, LogView, HoldsList, Holds, HoldAll, HaveSameOthers, HasSameBodies, IsApart, AddsTo, LeavesNow, view_in, list_in}
 use Rattle.cw_world.specs.Write.{HasBody}
 
 -- what is stored of all logs but this one is the same
@@ -33,6 +33,14 @@ body-others Offsets body stored = record { config = λ n. refl; offsets = λ n. 
 body-others Status body stored = record { config = λ n. refl; offsets = λ n. refl; status = λ n. absurd (n refl); txn = λ n. refl; batches = λ n. refl }
 body-others Txn body stored = record { config = λ n. refl; offsets = λ n. refl; status = λ n. refl; txn = λ n. absurd (n refl); batches = λ n. refl }
 body-others Batches body stored = record { config = λ n. refl; offsets = λ n. refl; status = λ n. refl; txn = λ n. refl; batches = λ n. absurd (n refl) }
+
+-- so their lists are the same
+pub lists-apart : (name : LogName) (old new : Stored) → AreSameOthers name old new → IsApart name old new
+lists-apart name old new same Config n = ap (λ (log : Paired (List ℕ)). log.frames) (same.config n)
+lists-apart name old new same Offsets n = ap (λ (log : Paired (List ℕ)). log.frames) (same.offsets n)
+lists-apart name old new same Status n = ap (λ (log : Paired (List ℕ)). log.frames) (same.status n)
+lists-apart name old new same Txn n = same.txn n
+lists-apart name old new same Batches n = same.batches n
 
 -- a list and side of one log go over to another log that tells the same
 module _ {D : Type 0} (G : Ghosts D) (s t : Stored) (old new : LogsState D) where

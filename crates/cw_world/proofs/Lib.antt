@@ -1,7 +1,10 @@
 pub mod Quiet
 pub mod Holding
+pub mod Keeping
 pub mod Entries
+pub mod Sides
 pub mod Writing
+pub mod Turning
 pub mod Topics
 pub mod Configs
 pub mod Ended

@@ -9,7 +9,7 @@ use Rattle.cw_model.specs.Facts.{AreFacts}
 use Rattle.cw_model.specs.StandsFor.{Stored}
 use Rattle.cw_laws.specs.Laws.{Keeps}
 use Rattle.cw_rows.specs.Kept.{Kept, HasSameLogs, Is, IsOrWants}
-use Rattle.cw_world.specs.Logs.{LogsState, HoldAll}
+use Rattle.cw_world.specs.Logs.{LogsState, HoldAll, AreSides}
 use Rattle.cw_world.specs.World.{IsWorld}
 use Rattle.cw_world.proofs.Holding.{stored-same}
 
@@ -20,6 +20,7 @@ module _ {D : Type 0} (G : Ghosts D) (logs : LogsState D) where
   stays setting old new facts same world = record {
     facts = facts;
     holds = λ alive. subst (λ (stored : Stored). HoldAll G stored logs) (sym (stored-same old new same)) (world.holds (sym same.closed ∙ alive));
+    sides = λ alive. subst (λ (stored : Stored). AreSides stored logs) (sym (stored-same old new same)) (world.sides (sym same.closed ∙ alive));
   }
 
   -- an event that is done, or is refused

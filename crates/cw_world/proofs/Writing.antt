@@ -15,10 +15,12 @@ use Rattle.cw_laws.specs.Laws.{Keeps}
 use Rattle.cw_laws.proofs.Clock.{closes-keeps}
 use Rattle.cw_rows.specs.Kept.{Kept}
 use Rattle.cw_rows.specs.Writes.{Readies, Refuses, Puts, bytes_in, with_body}
-use Rattle.cw_world.specs.Logs.{LogsState, LogView, IsOpenLog, HoldAll, HaveSameOthers, HasSameBodies, AddsTo, LeavesNow, view_in, list_in, faults_in}
+use Rattle.cw_world.specs.Logs.{LogsState, LogView, IsOpenLog, HoldAll, AreSides, HaveSameOthers, HasSameBodies, AddsTo, LeavesNow, IsApart, view_in, list_in, faults_in}
 use Rattle.cw_world.specs.Write.{IsWrite, IsFull}
 use Rattle.cw_world.specs.World.{WorldState, IsWorld, Writes}
-use Rattle.cw_world.proofs.Holding.{same-others, body-others, hold-behind, holds-same, holds-more, list-with, bytes-are, stored-same, nothing-added, less-added, less-left}
+use Rattle.cw_world.proofs.Sides.{keep-sides, sides-with}
+use Rattle.cw_world.proofs.Keeping.{keeps-same}
+use Rattle.cw_world.proofs.Holding.{same-others, lists-apart, body-others, hold-behind, holds-same, holds-more, list-with, bytes-are, stored-same, nothing-added, less-added, less-left}
 
 -- the world of a cluster and its logs
 abbrev pub world : {D : Type 0} → Book → Kept → LogsState D → WorldState D
@@ -30,7 +32,7 @@ Comes G name event old old_logs new new_logs result =
     ((called : Book) → Writes G name event (world called old old_logs) (world called new new_logs) result) × IsWorld G new.setting new.state new_logs
 
 pub same-view : (view : LogView) → HasSameBodies view view
-same-view view = record { bodies = refl; size = refl; bytes = refl; limit = refl }
+same-view view = record { number = refl; bodies = refl; size = refl; bytes = refl; limit = refl }
 
 pub is-memory : (fault : WorldFault) → (fault ≡ Memory) ⊎ (fault ≢ Memory)
 is-memory (Fenced own current) = inr (λ e. cc)
@@ -81,10 +83,12 @@ module _ {D : Type 0} (G : Ghosts D) {A : Type 0} (event : Cluster → Answer A)
           setting = r.setting;
           others = unmoved logs;
           leaves = λ told is. nothing-added G name logs _;
+          keeps = keeps-same (view_in G name logs) (faults_in G name logs);
         },
         record {
           facts = subst (λ (setting : Setting). AreFacts setting new.state) (sym r.setting) facts;
           holds = λ alive. subst (λ (stored : Stored). HoldAll G stored logs) (sym (stored-same old.state new.state r.logs)) (known.holds (sym r.logs.closed ∙ alive));
+          sides = λ alive. subst (λ (stored : Stored). AreSides stored logs) (sym (stored-same old.state new.state r.logs)) (known.sides (sym r.logs.closed ∙ alive));
         },
       )
 
@@ -133,7 +137,8 @@ module _ {D : Type 0} (G : Ghosts D) {A : Type 0} (event : Cluster → Answer A)
         let stored = stored_of old.state in
         let all : HoldAll G stored new_logs = hold-behind G stored stored old_logs new_logs name (same-others name stored) others holds-old
         (holds-same name stored (view_in G name old_logs) (view_in G name new_logs) (holds-old name) same shut) in
-        let there : IsWorld G old.setting old.state new_logs = record { facts = known.facts; holds = λ alive. all } in
+        let sides : AreSides stored new_logs = keep-sides G stored name old_logs new_logs others same.number (known.sides ready.due.alive) in
+        let there : IsWorld G old.setting old.state new_logs = record { facts = known.facts; holds = λ alive. all; sides = λ alive. sides } in
         rw (kept, ready.setting, ready.state) there
 
     state-is : after ≡ mid → after.state ≡ old.state
@@ -157,6 +162,7 @@ module _ {D : Type 0} (G : Ghosts D) {A : Type 0} (event : Cluster → Answer A)
         setting = setting-is w.answer.kept;
         others = others;
         leaves = λ told is. leaves-of told is (w.leaves told is);
+        keeps = w.keeps;
       },
       stays w.answer.kept w.answer.same w.answer.shut,
     )
@@ -167,6 +173,7 @@ module _ {D : Type 0} (G : Ghosts D) {A : Type 0} (event : Cluster → Answer A)
         setting = setting-is w.answer.kept;
         others = others;
         leaves = λ told is. leaves-of told is (w.leaves told is);
+        keeps = w.keeps;
       },
       stays w.answer.kept w.answer.same w.answer.shut,
     )
@@ -186,12 +193,15 @@ module _ {D : Type 0} (G : Ghosts D) {A : Type 0} (event : Cluster → Answer A)
               fails = w.answer.fails;
               same = w.answer.same;
               left = λ told is. left-of told is (moved-room true w.answer.room) (w.answer.left told is);
+              apart = subst (λ (those : Stored). IsApart name (stored_of old.state) those) (sym here.stored)
+                  (lists-apart name (stored_of old.state) (with_body name body (stored_of old.state)) (body-others name body (stored_of old.state)));
             }));
             setting = setting;
             others = others;
             leaves = λ told is. leaves-of told is (w.leaves told is);
+            keeps = w.keeps;
           },
-          rw (setting, state) (record { facts = closes-keeps old.setting disk count old.state known.facts; holds = λ alive. absurd (cc) }),
+          rw (setting, state) (record { facts = closes-keeps old.setting disk count old.state known.facts; holds = λ alive. absurd (cc); sides = λ alive. absurd (cc) }),
         )
     not-written (Fenced own current) w = absurd w.answer
     not-written (StaleGeneration own current) w = absurd w.answer
@@ -221,9 +231,12 @@ module _ {D : Type 0} (G : Ghosts D) {A : Type 0} (event : Cluster → Answer A)
             setting = setting;
             others = others;
             leaves = λ told is. leaves-of told is (w.leaves told is);
+            keeps = w.keeps;
           },
           record {
             facts = subst (λ (setting : Setting). AreFacts setting new.state) (sym setting) facts;
             holds = λ alive. subst (λ (s : Stored). HoldAll G s new_logs) (sym stored) all;
+            sides = λ alive. subst (λ (s : Stored). AreSides s new_logs) (sym stored) (sides-with name body (stored_of old.state) new_logs
+                (keep-sides G (stored_of old.state) name old_logs new_logs others w.answer.has.number (known.sides ready.due.alive)));
           },
         )

@@ -1,6 +1,6 @@
 -- The five logs of the world, as contracts see them: what each tells of itself, what it holds of what is stored, and
 -- what a stop leaves of it.
-use Rattle.std.specs.Prelude.{◌≡◌, ◌≢◌, ℕ, ◌==◌, Bool, false, List, length, Option, Some, if◌then◌else◌}
+use Rattle.std.specs.Prelude.{◌≡◌, ◌≢◌, ◌≤◌, ℕ, ◌==◌, Bool, false, List, length, Option, Some, is_some, if◌then◌else◌}
 use Rattle.cw_types.specs.declared.logs.LogName.{LogName}
 use Rattle.cw_types.specs.declared.logs.LogName.TheVariants.{Config, Offsets, Status, Txn, Batches}
 use Rattle.cw_types.specs.declared.logs.DiskName.{DiskName}
@@ -30,12 +30,14 @@ logs_of config offsets status txn batches =
     record { config = config; offsets = offsets; status = status; txn = txn; batches = batches }
 
 -- what a log tells of itself: its list where its disks tell it, how many bodies and bytes it has, how many bytes it may
--- have, and whether an append has failed
+-- have, the number of its kind and of its side, and whether an append has failed
 pub record LogView : Type 0 where
   pub bodies : Option (List (List ℕ))
   pub size : ℕ
   pub bytes : ℕ
   pub limit : ℕ
+  pub kind : ℕ
+  pub number : ℕ
   pub shut : Bool
 
 -- this of any log
@@ -45,6 +47,8 @@ view_of L log = record {
   size = L.size log;
   bytes = L.bytes log;
   limit = L.limit log;
+  kind = L.kind log;
+  number = L.number log;
   shut = L.is_shut log;
 }
 
@@ -55,6 +59,8 @@ view_of_pair D pair = record {
   size = pair.log.count;
   bytes = pair.log.length;
   limit = pair.log.limit;
+  kind = pair.log.kind;
+  number = pair.log.number;
   shut = pair.log.shut;
 }
 
@@ -64,6 +70,8 @@ view_of_topic log = record {
   size = log.count;
   bytes = log.length;
   limit = log.limit;
+  kind = log.kind;
+  number = log.number;
   shut = log.shut;
 }
 
@@ -85,6 +93,10 @@ list_in Status stored = stored.status.frames
 list_in Txn stored = stored.txn
 list_in Batches stored = stored.batches
 
+-- of each log but this one the list is the same
+abbrev pub IsApart : LogName → (old new : Stored) → Type 0
+IsApart name old new = (any : LogName) → name ≢ any → list_in any new ≡ list_in any old
+
 -- a log of so many bytes that can be written to
 pub record IsOpenLog (bytes : ℕ) (log : LogView) : Type 0 where
   pub bytes_are : log.bytes ≡ bytes
@@ -105,6 +117,12 @@ Holds name stored log = HoldsList (list_in name stored) log
 abbrev pub HoldAll : {D : Type 0} → Ghosts D → Stored → LogsState D → Type 0
 HoldAll D stored logs = (name : LogName) → Holds name stored (view_in D name logs)
 
+-- each log of two sides is on the side with the number that is stored
+pub record AreSides {D : Type 0} (stored : Stored) (logs : LogsState D) : Type 0 where
+  pub config : logs.config.log.number ≡ stored.config.side
+  pub offsets : logs.offsets.log.number ≡ stored.offsets.side
+  pub status : logs.status.log.number ≡ stored.status.side
+
 -- all logs but this one are the same
 pub record HaveSameOthers {D : Type 0} (name : LogName) (old new : LogsState D) : Type 0 where
   pub config : name ≢ Config → new.config ≡ old.config
@@ -113,8 +131,15 @@ pub record HaveSameOthers {D : Type 0} (name : LogName) (old new : LogsState D) 
   pub txn : name ≢ Txn → new.txn ≡ old.txn
   pub batches : name ≢ Batches → new.batches ≡ old.batches
 
--- the same list, as the log tells it
+-- a log keeps its kind, tells its list if it told it before, and no disk's count of faults fell
+pub record KeepsOn (old new : LogView) (before now : ℕ → ℕ) : Type 0 where
+  pub kind : new.kind ≡ old.kind
+  pub told : is_some new.bodies ≡ is_some old.bodies
+  pub later : (side : ℕ) → before side ≤ now side
+
+-- the same list, as the log tells it, on the same side
 pub record HasSameBodies (old new : LogView) : Type 0 where
+  pub number : new.number ≡ old.number
   pub bodies : new.bodies ≡ old.bodies
   pub size : new.size ≡ old.size
   pub bytes : new.bytes ≡ old.bytes

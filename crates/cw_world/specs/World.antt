@@ -10,7 +10,7 @@ use Rattle.cw_model.specs.State.{Setting, Cluster}
 use Rattle.cw_model.specs.Answers.{Answer}
 use Rattle.cw_model.specs.Facts.{AreFacts}
 use Rattle.cw_model.specs.Reopening.{stored_of, closed_by}
-use Rattle.cw_world.specs.Logs.{LogsState, HoldAll, HaveSameOthers, HasSameBodies, AddsTo, LeavesNow, view_in, list_in, faults_in}
+use Rattle.cw_world.specs.Logs.{LogsState, HoldAll, AreSides, HaveSameOthers, HasSameBodies, KeepsOn, AddsTo, LeavesNow, IsApart, view_in, list_in, faults_in}
 use Rattle.cw_world.specs.Write.{FailsOn}
 
 -- the state, what stays the same, the logs, and which world it is
@@ -20,10 +20,11 @@ pub record WorldState (D : Type 0) : Type 0 where
   pub logs : LogsState D
   pub name : Book
 
--- all facts of the state; and while it is open, the logs hold just what stands in it
+-- all facts of the state; and while it is open, the logs hold just what stands in it, each on the side of its number
 pub record IsWorld {D : Type 0} (G : Ghosts D) (setting : Setting) (s : Cluster) (logs : LogsState D) : Type 0 where
   pub facts : AreFacts setting s
   pub holds : s.closed ≡ None → HoldAll G (stored_of s) logs
+  pub sides : s.closed ≡ None → AreSides (stored_of s) logs
 
 -- ---- what an event that touches no log does
 
@@ -55,7 +56,7 @@ pub record RunsOut {D A : Type 0} (G : Ghosts D) (log : LogName) (old new : Worl
 
 -- A disk of the log failed where the event would have been done: its count rose in this call, and all writing has
 -- ended. Whichever image a stop leaves of the log's disks, it stands for the list before the event or the one behind
--- it.
+-- it. The event changes the list of no other log.
 pub record Breaks {D A : Type 0} (G : Ghosts D) (log : LogName) (event : Cluster → Answer A) (old new : WorldState D)
     (result : Result A WorldFault) : Type 0 where
   pub disk : DiskName
@@ -69,6 +70,7 @@ pub record Breaks {D A : Type 0} (G : Ghosts D) (log : LogName) (event : Cluster
   pub left : (told : List (List ℕ)) → (view_in G log old.logs).bodies ≡ Some told →
       LeavesNow G log new.logs (λ list. (list ≡ list_in log (stored_of old.state)) ⊎
       (list ≡ list_in log (stored_of (event old.state).1)))
+  pub apart : IsApart log (stored_of old.state) (stored_of (event old.state).1)
 
 -- The event is done, or is refused, just as the model says; or memory is wanting, or a disk failed. No other log
 -- changes, and of its own a stop at any moment of the call leaves the list before the event or the one behind it.
@@ -82,6 +84,8 @@ pub record Writes {D A : Type 0} (G : Ghosts D) (log : LogName) (event : Cluster
   pub leaves : (told : List (List ℕ)) → (view_in G log old.logs).bodies ≡ Some told →
       AddsTo G log old.logs new.logs (λ list. (list ≡ list_in log (stored_of old.state)) ⊎
       (list ≡ list_in log (stored_of (event old.state).1)))
+  pub keeps : KeepsOn (view_in G log old.logs) (view_in G log new.logs) (faults_in G log old.logs)
+      (faults_in G log new.logs)
 
 -- ---- what any event does
 
@@ -98,3 +102,5 @@ pub record Acts {D A : Type 0} (G : Ghosts D) (event : Cluster → Answer A) (ol
   pub leaves : (any : LogName) → (told : List (List ℕ)) → (view_in G any old.logs).bodies ≡ Some told →
       AddsTo G any old.logs new.logs (λ list. (list ≡ list_in any (stored_of old.state)) ⊎
       (list ≡ list_in any (stored_of (event old.state).1)))
+  pub keeps : (any : LogName) → KeepsOn (view_in G any old.logs) (view_in G any new.logs)
+      (faults_in G any old.logs) (faults_in G any new.logs)

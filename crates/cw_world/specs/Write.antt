@@ -9,7 +9,7 @@ use Rattle.cw_model.specs.Bodies.{frame_of, has_room}
 use Rattle.cw_model.specs.Reopening.{closed_by}
 use Rattle.cw_rows.specs.Kept.{Kept}
 use Rattle.cw_rows.specs.Writes.{bytes_in}
-use Rattle.cw_world.specs.Logs.{LogView, HasSameBodies, disk_of}
+use Rattle.cw_world.specs.Logs.{LogView, HasSameBodies, KeepsOn, disk_of}
 
 -- the log has the body too
 pub record HasBody (body : List ℕ) (old new : LogView) : Type 0 where
@@ -17,6 +17,7 @@ pub record HasBody (body : List ℕ) (old new : LogView) : Type 0 where
   pub size : new.size ≡ old.size + 1
   pub bytes : new.bytes ≡ old.bytes + frame_of body
   pub limit : new.limit ≡ old.limit
+  pub number : new.number ≡ old.number
   pub alive : new.shut ≡ false
 
 -- a disk of the log failed: its count of faults rose to what is told
@@ -88,3 +89,4 @@ pub record IsWrite (name : LogName) (body : List ℕ) (old new : LogView) (fault
   pub leaves : (list : List (List ℕ)) → old.bodies ≡ Some list →
       adds (λ left. (left ≡ list) ⊎
       ((has_room (bytes_in name before.state) (frame_of body) ≡ true) × (left ≡ list ++ body ∷ [])))
+  pub keeps : KeepsOn old new faults_old faults_new

@@ -11,11 +11,12 @@ use cw_disk::{Disk, Disks};
 
 impl<D: Disk> World<D> {
     /// Gives the disks and the whole journal back. What a stop leaves of the disks then stands for the state, unless
-    /// one of them has failed.
+    /// one of them has failed; and even then what it leaves of the disks of each other log stands for its list.
     pub fn give_back(self) -> (Disks<D>, Journal)
         ensures disks { result.0 ≡ disks_of self.logs }
         ensures stored { self.state.closed ≡ None →
             LeaveStored D.Disk (stored_of self.state) self.logs result.0 }
+        ensures told { LeaveTold D.Disk self.logs result.0 }
         ensures journal { result.1 ≡ record { entries = self.state.journal; name = Some self.name } }
     {
         let disks = give_back_logs(self.logs);

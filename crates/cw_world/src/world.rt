@@ -1,10 +1,10 @@
 //! The world.
-ghost use Rattle.std.specs.Prelude.{◌≡◌};
+ghost use Rattle.std.specs.Prelude.{◌≡◌, None};
 ghost use Rattle.cw_model.specs.Facts.{AreFacts};
 ghost use Rattle.cw_model.specs.Safe.{IsSafe};
 ghost use Rattle.cw_model.specs.Journal.{IsTrueJournal};
 ghost use Rattle.cw_model.specs.Reopening.{stored_of};
-ghost use Rattle.cw_world.specs.Logs.{HoldAll};
+ghost use Rattle.cw_world.specs.Logs.{AreSides, HoldAll};
 
 use crate::logs::Logs;
 use crate::name::{WorldName, fresh};
@@ -54,10 +54,18 @@ impl<D: Disk> World<D> {
     ghost use Rattle.cw_world.specs.World.{WorldState};
     ghost use Rattle.cw_world.specs.Logs.{LogsState};
 
-    /// A cluster with all facts, and the logs that hold what stands in it. The world gets a name that no other has.
+    /// A cluster with all facts, and the logs that hold what stands in it, on the sides of its numbers. The world gets
+    /// a name that no other has.
     pub fn new(cluster: Cluster, logs: Logs<D>) -> World<D>
         requires facts { AreFacts cluster.setting cluster.state }
         requires holds { HoldAll D.Disk (stored_of cluster.state) (record {
+          config = logs.config;
+          offsets = logs.offsets;
+          status = logs.status;
+          txn = logs.txn;
+          batches = logs.batches;
+        }) }
+        requires sides { AreSides (stored_of cluster.state) (record {
           config = logs.config;
           offsets = logs.offsets;
           status = logs.status;
@@ -89,11 +97,13 @@ impl<D: Disk> World<D> {
         &self.cluster
     }
 
-    /// The law of every world: its state is safe, and its journal is true. It does nothing at run time.
+    /// The law of every world: its state is safe, its journal is true, and while no disk has failed its logs hold just
+    /// what stands in it. It does nothing at run time.
     pub fn is_safe(&self)
         ensures safe { IsSafe self.now.setting self.now.state }
         ensures journal { IsTrueJournal self.now.setting self.now.state }
         ensures facts { AreFacts self.now.setting self.now.state }
+        ensures holds { self.now.state.closed ≡ None → HoldAll D.Disk (stored_of self.now.state) self.now.logs }
     {
         let _ = &self.cluster;
         facts_are_safe();

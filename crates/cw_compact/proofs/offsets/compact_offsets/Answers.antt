@@ -4,6 +4,7 @@ use Rattle.std.specs.BTreeSet.{contains}
 use Rattle.cw_types.specs.declared.ids.Tag.{Tag}
 use Rattle.cw_types.specs.Same.{tag_order}
 use Rattle.cw_keys.proofs.Choice.{if_ok}
+use Rattle.cw_bytes.specs.Frames.{joined}
 use Rattle.cw_txn.specs.declared.entry.Entry.{Entry}
 use Rattle.cw_offset.specs.declared.body.OffsetEntry.{OffsetEntry}
 use Rattle.cw_offset.specs.Log.{has_records}
@@ -16,7 +17,7 @@ use Rattle.cw_compact.proofs.offsets.compact_offsets.Goals as goal
 pub returns : goal.returns
 returns c =
     let log : List OffsetEntry = c.args.log.items in
-    let entries : List Entry = c.args.entries.now in
+    let entries : List Entry = joined c.args.txn.now in
     let whole : List OffsetEntry = map (records_staying entries log) log in
     let stored : AreStored c.in_ok-stored.stored.rows log = subst (AreStored c.in_ok-stored.stored.rows) c.as_slice.ensures.value c.in_ok-stored.ensures in
     let outcomes : AreOutcomes c.in_ok-outcomes.outcomes log entries = c.in_ok-outcomes.ensures log stored in

@@ -1,16 +1,22 @@
-use Rattle.std.proofs.Common.{take, sym, subst, arith}
+use Rattle.std.proofs.Common.{◌++◌, List, take, sym, subst, arith}
 use Rattle.std.proofs.lemmas.List.{take_all}
+use Rattle.cw_bytes.specs.Frames.{joined}
+use Rattle.cw_txn.specs.declared.entry.Entry.{Entry}
 use Rattle.cw_compact.specs.Outcomes.{AreOutcomes}
-use Rattle.cw_compact.proofs.Joined.{more}
+use Rattle.cw_compact.proofs.Joined.{joined_more}
 use Rattle.cw_compact.proofs.offsets.outcomes_of.Goals as goal
 
-pub loop-entry-init : goal.loop-entry-init
-loop-entry-init c = λ log stored. c.new-outcomes.ensures log
+pub loop-frame-init : goal.loop-frame-init
+loop-frame-init c = λ log stored. c.new-outcomes.ensures log
 
-pub loop-entry-preserved : goal.loop-entry-preserved
-loop-entry-preserved c = λ log stored.
-    subst (AreOutcomes c.note.new.self log) (sym (more c.args.entries.now c.loop-entry.entry-index c.entry-item.result c.loop-entry-test.true c.entry-item.is))
-    (c.in_ok-note.ensures log (take c.loop-entry.entry-index c.args.entries.now) stored (c.loop-entry.invariant log stored))
+pub loop-frame-preserved : goal.loop-frame-preserved
+loop-frame-preserved c = λ log stored.
+    let frames : List (List Entry) = c.args.txn.now in
+    let before : List Entry = joined (take c.loop-frame.frame-index frames) in
+    subst (AreOutcomes c.note_entries.new.outcomes log)
+    (sym (joined_more frames c.loop-frame.frame-index c.frame-item.result c.loop-frame-test.true c.frame-item.is))
+    (subst (λ (f : List Entry). AreOutcomes c.note_entries.new.outcomes log (before ++ f)) c.as_slice.ensures
+    (c.in_ok-note_entries.ensures log before stored (c.loop-frame.invariant log stored)))
 
 pub returns : goal.returns
-returns c = λ log stored. subst (AreOutcomes c.loop-entry.outcomes log) (take_all c.loop-entry.entry-index c.args.entries.now (omega arith)) (c.loop-entry.invariant log stored)
+returns c = λ log stored. subst (λ (l : List (List Entry)). AreOutcomes c.loop-frame.outcomes log (joined l)) (take_all c.loop-frame.frame-index c.args.txn.now (omega arith)) (c.loop-frame.invariant log stored)

@@ -1,4 +1,4 @@
-use Rattle.std.proofs.Common.{◌<◌, ◌≤◌, ◌∙◌, List, arith, length, refl, ap, sym, subst}
+use Rattle.std.proofs.Common.{◌<◌, ◌≤◌, ◌∙◌, List, arith, length, refl, ap, sym, subst, ◌^◌}
 use Rattle.cw_config.specs.declared.records.ConfigRecord.{ConfigRecord}
 use Rattle.cw_config.specs.View.{task_count_of}
 use Rattle.cw_model.specs.EventsLeading.{fence_record, without_fencing}
@@ -8,6 +8,8 @@ use Rattle.cw_rows.specs.Configs.{HaveRead}
 use Rattle.cw_rows.specs.Kept.{Kept}
 use Rattle.cw_rows.proofs.ConfigDue.{append_fence-puts, still-read, row-changed}
 use Rattle.cw_rows.proofs.ConfigFrames.{first-at}
+use Rattle.cw_rows.proofs.Few.{few}
+use Rattle.cw_bytes.specs.Spelling.{records_bytes}
 use Rattle.cw_rows.proofs.cluster.Cluster.put_append_fence.Goals as goal
 
 pub invariant_of-self : goal.invariant_of-self
@@ -29,3 +31,6 @@ returns c =
     c.args.frame c.first-first.result c.requires.passed c.requires.newest c.requires.frame c.requires.offsets
     (c.first-first.ensures ∙ first-at c.args.frame (next_config s) (stamp_of s) values some c.requires.frame)
     c.requires.room (ap (λ (k : Kept). changes_row c.args.w without_fencing (with_configs c.args.frame k.state)) c.self.view_is))
+
+pub put_configs-requires-clause-few : goal.put_configs-requires-clause-few
+put_configs-requires-clause-few c = subst (λ (k : Kept). length k.state.config.frames < 2 ^ 62) (sym c.self.view_is) (few records_bytes c.args.self.now.state.config.frames _ c.requires.room)

@@ -1,9 +1,11 @@
-use Rattle.std.proofs.Common.{sym, ap, ◌∙◌}
+use Rattle.std.proofs.Common.{sym, ap, ◌∙◌, ◌<◌, ◌^◌, length, subst}
 use Rattle.cw_keys.specs.declared.state.State.{State}
 use Rattle.cw_model.specs.State.{StampedStatus}
 use Rattle.cw_rows.specs.Kept.{Kept}
 use Rattle.cw_rows.specs.Statuses.{next_in, with_reports}
 use Rattle.cw_rows.proofs.StatusLemmas.{status-puts, state-reported}
+use Rattle.cw_rows.proofs.Few.{few}
+use Rattle.cw_bytes.specs.Spelling.{records_bytes}
 use Rattle.cw_rows.proofs.cluster.Cluster.put_put_status.Goals as goal
 
 pub put_status-requires-clause-ready : goal.put_status-requires-clause-ready
@@ -21,3 +23,6 @@ returns c =
     c.args.frame.status.value.state c.args.self.now.state (ap (λ (k : Kept). k.state) c.self.view_is) c.put_status.ensures
     (c.report.ensures ∙ ap (λ (state : State). with_reports c.args.w c.args.item.now state inside.crew) c.state-state.ensures))
     (ap (λ (k : Kept). k.setting) c.self.view_is)
+
+pub put_status-requires-clause-few : goal.put_status-requires-clause-few
+put_status-requires-clause-few c = subst (λ (k : Kept). length k.state.status.frames < 2 ^ 62) (sym c.self.view_is) (few records_bytes c.args.self.now.state.status.frames _ c.requires.room)

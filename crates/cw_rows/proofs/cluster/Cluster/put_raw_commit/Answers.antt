@@ -1,4 +1,4 @@
-use Rattle.std.proofs.Common.{ℕ, [], map, sym, ap, subst}
+use Rattle.std.proofs.Common.{ℕ, [], map, sym, ap, subst, ◌<◌, ◌^◌, length, ◌∙◌}
 use Rattle.cw_types.specs.declared.ids.Tag.{Tag}
 use Rattle.cw_types.specs.declared.ids.Tid.TheVariants.{Raw}
 use Rattle.cw_txn.specs.Allowed.{IsAllowedBehind}
@@ -9,20 +9,25 @@ use Rattle.cw_model.specs.Updates.{with_entries}
 use Rattle.cw_rows.specs.Kept.{Kept}
 use Rattle.cw_rows.proofs.Halves.{raw_commit-puts}
 use Rattle.cw_rows.proofs.Putting.{each-behind}
+use Rattle.cw_rows.proofs.Few.{few}
+use Rattle.cw_txn.specs.Body.{entries_bytes}
 use Rattle.cw_rows.proofs.cluster.Cluster.put_raw_commit.Goals as goal
 
-pub put_entries-requires-clause-allowed : goal.put_entries-requires-clause-allowed
-put_entries-requires-clause-allowed c = subst (λ (k : Kept). EachFrom IsAllowedBehind k.state.entries c.args.frame) (sym c.self.view_is)
+pub put_entries-entries-requires-clause-allowed : goal.put_entries-entries-requires-clause-allowed
+put_entries-entries-requires-clause-allowed c = subst (λ (k : Kept). EachFrom IsAllowedBehind k.state.entries c.args.frame) (sym c.self.view_is)
     (each-behind IsAllowedBehind [] c.args.self.now.state.entries c.args.frame c.requires.allowed)
 
-pub put_entries-requires-clause-chains : goal.put_entries-requires-clause-chains
-put_entries-requires-clause-chains c part = subst (λ (k : Kept). EachFrom (ChainsBehind part) k.state.entries c.args.frame) (sym c.self.view_is)
+pub put_entries-entries-requires-clause-chains : goal.put_entries-entries-requires-clause-chains
+put_entries-entries-requires-clause-chains c part = subst (λ (k : Kept). EachFrom (ChainsBehind part) k.state.entries c.args.frame) (sym c.self.view_is)
     (each-behind (ChainsBehind part) [] c.args.self.now.state.entries c.args.frame (c.requires.chains part))
 
 pub returns : goal.returns
 returns c =
     let entries = c.args.self.now.state.entries in
     let tag : Tag = record { number = list_end entries; epoch = c.args.epoch; tid = Raw c.args.n } in
-    rw (c.put_entries.ensures) (raw_commit-puts c.args.n c.args.epoch c.args.list.now c.args.self.now _ (ap (λ (k : Kept). k.setting) c.self.view_is)
-    c.args.frame c.spans_in.result c.requires.passed c.requires.frame (c.spans_in.ensures tag 0 (map (raw_span entries) c.args.list.now) c.requires.frame)
+    rw (c.put_entries-entries.ensures.put) (raw_commit-puts c.args.n c.args.epoch c.args.list.now c.args.self.now _ (ap (λ (k : Kept). k.setting) c.self.view_is)
+    c.args.frame c.spans_in.result c.requires.passed c.requires.frame (c.spans_in.ensures tag 0 (map (raw_span entries) c.args.list.now) (c.put_entries-entries.ensures.entries ∙ c.requires.frame))
     c.requires.room (ap (λ (k : Kept). with_entries c.args.frame k.state) c.self.view_is))
+
+pub put_entries-entries-requires-clause-few : goal.put_entries-entries-requires-clause-few
+put_entries-entries-requires-clause-few c = subst (λ (k : Kept). length k.state.txn < 2 ^ 62) (sym c.self.view_is) (few entries_bytes c.args.self.now.state.txn _ c.requires.room)

@@ -7,5 +7,5 @@ use Rattle.cw_rows.proofs.Told.{first-told}
 use Rattle.cw_rows.proofs.offset_log.OffsetLog.first_unmarked.Goals as goal
 
 pub returns : goal.returns
-returns c = c.first_unmarked.ensures ∙ first-told (verdict_of c.args.txn.now.entries) c.self.inside.frames.items c.self.inside.state.calls c.self.invariant.told ∙
+returns c = c.first_unmarked.ensures ∙ first-told (verdict_of c.args.txn.now.entries) c.self.inside.frames c.self.inside.state.calls c.self.invariant.told ∙
     ap (λ (l : OffsetLogState). first_unmarked (verdict_of c.args.txn.now.entries) l.frames) c.self.view_is

@@ -6,5 +6,5 @@ use Rattle.cw_rows.proofs.offset_log.OffsetLog.opened.Goals as goal
 
 pub invariant_of-result : goal.invariant_of-result
 invariant_of-result c =
-    opened-log c.args.frames.now c.past_of.result.items (joined c.args.txn.now) c.in_ok-state.state.calls c.next_of.result c.past_of.ensures
-    (ap (λ (t : Calls). t.calls) c.in_ok-state.ensures) c.next_of.ensures
+    opened-log c.args.frames.now c.in_ok-frames.frames (joined c.args.txn.now) c.in_ok-state.state.calls c.next_of-next.result c.in_ok-frames.ensures
+    (ap (λ (t : Calls). t.calls) c.in_ok-state.ensures) c.next_of-next.ensures

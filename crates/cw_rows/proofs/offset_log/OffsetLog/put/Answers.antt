@@ -11,10 +11,10 @@ use Rattle.cw_rows.proofs.offset_log.OffsetLog.put.Goals as goal
 
 pub invariant_of-self : goal.invariant_of-self
 invariant_of-self c =
-    let calls_is : c.tell_each.new.state.calls ≡ c.self.inside.state.calls ++ told_in c.args.frame.now =
-    ap (λ (t : Calls). t.calls) c.tell_each.ensures ∙ ap (λ (l : List OffsetCall). c.self.inside.state.calls ++ l) c.calls.ensures in
-    let frames_is : c.and-frames.result.items ≡ c.self.inside.frames.items ++ c.args.frame.now ∷ [] =
-    c.and-frames.ensures ∙ ap (λ (e : OffsetEntry). c.self.inside.frames.items ++ e ∷ []) c.entry-entry.ensures in
-    rw (calls_is, frames_is) (log-more c.self.inside.frames.items c.self.inside.state.calls c.args.frame.now c.self.inside.next c.next_behind-next.result c.self.invariant
-    (subst (λ (l : OffsetLogState). (tag : Tag) → offset_tag c.args.frame.now ≡ Some tag → is_marked tag l.frames ≡ false) (sym c.self.view_is) c.requires.unmarked)
-    (subst (λ (e : OffsetEntry). (n : ℕ) → IsNext n c.self.inside.next → IsNext (raised n (offset_records e)) c.next_behind-next.result) c.entry-entry.ensures c.next_behind-next.ensures))
+    let calls_is : c.tell_each.new.state.calls ≡ c.self.inside.state.calls ++ told_in c.args.frame =
+    ap (λ (t : Calls). t.calls) c.tell_each.ensures ∙ ap (λ (l : List OffsetCall). c.self.inside.state.calls ++ l) (c.as_slice.ensures.value ∙ c.into_parts-entry.ensures.calls) in
+    let frames_is : c.hang.new.frames ≡ c.self.inside.frames ++ c.args.frame ∷ [] =
+    c.hang.ensures ∙ ap (λ (l : List OffsetEntry). c.self.inside.frames ++ l) c.into_parts-entry.ensures.list in
+    rw (calls_is, frames_is) (log-more c.self.inside.frames c.self.inside.state.calls c.args.frame c.self.inside.next c.next_behind-self-inside.result c.self.invariant
+    (subst (λ (l : OffsetLogState). (tag : Tag) → offset_tag c.args.frame ≡ Some tag → is_marked tag l.frames ≡ false) (sym c.self.view_is) c.requires.unmarked)
+    (subst (λ (e : OffsetEntry). (n : ℕ) → IsNext n c.self.inside.next → IsNext (raised n (offset_records e)) c.next_behind-self-inside.result) c.into_parts-entry.ensures.entry c.next_behind-self-inside.ensures))
