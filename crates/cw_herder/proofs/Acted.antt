@@ -8,7 +8,7 @@ use Rattle.cw_model.specs.declared.fault.WorldFault.TheVariants.{StoreFault, Mem
 use Rattle.cw_model.specs.State.{Cluster}
 use Rattle.cw_model.specs.Answers.{Answer}
 use Rattle.cw_model.specs.Reopening.{stored_of}
-use Rattle.cw_world.specs.Logs.{AddsTo, LeavesNow, view_in, list_in}
+use Rattle.cw_world.specs.Logs.{AddsTo, LeavesNow, IsApart, view_in, list_in}
 use Rattle.cw_world.specs.World.{WorldState, Acts, RunsOut, Breaks}
 
 -- what another event answers where one answers this
@@ -44,6 +44,7 @@ module _ {D A B : Type 0} (G : Ghosts D) (event : Cluster → Answer A) (other :
         left = subst (λ (t : Cluster). (told : List (List ℕ)) → (view_in G log old.logs).bodies ≡ Some told →
             LeavesNow G log new.logs (λ list. (list ≡ list_in log (stored_of old.state)) ⊎ (list ≡ list_in log (stored_of t))))
             (sym otherwise.state) b.left;
+        apart = subst (λ (t : Cluster). IsApart log (stored_of old.state) (stored_of t)) (sym otherwise.state) b.apart;
       }
 
   pub acts-as : Acts G event old new result → Acts G other old new answer
@@ -60,6 +61,7 @@ module _ {D A B : Type 0} (G : Ghosts D) (event : Cluster → Answer A) (other :
     setting = acts.setting;
     name = acts.name;
     others = acts.others;
+    keeps = acts.keeps;
     leaves = λ log. subst (λ (t : Cluster). (told : List (List ℕ)) → (view_in G log old.logs).bodies ≡ Some told →
         AddsTo G log old.logs new.logs (λ list. (list ≡ list_in log (stored_of old.state)) ⊎ (list ≡ list_in log (stored_of t))))
         (sym otherwise.state) (acts.leaves log);

@@ -30,7 +30,7 @@ use Rattle.cw_model.specs.Updates.{epoch_in, changes_row, without_lead, with_con
 use Rattle.cw_ops.specs.declared.answering.Answers.{Answers}
 use Rattle.cw_ops.specs.Answering.{AreAnswers}
 use Rattle.cw_ops.specs.Requests.{answers, behind_write, reply_now, written}
-use Rattle.cw_world.specs.Logs.{LogsState, HaveSameOthers, AddsTo, LeavesNow, view_in, list_in}
+use Rattle.cw_world.specs.Logs.{LogsState, HaveSameOthers, KeepsOn, AddsTo, LeavesNow, IsApart, view_in, list_in, faults_in}
 use Rattle.cw_world.specs.World.{WorldState, DoesOrWants, Writes, RunsOut, Breaks, Acts}
 use Rattle.cw_world.proofs.Acting.{writes-acts}
 use Rattle.cw_world.proofs.Writing.{is-memory}
@@ -195,6 +195,7 @@ module _ {D A : Type 0} (G : Ghosts D) (event : Cluster → Answer A) (log : Log
           left = subst (λ (those : Stored). (told : List (List ℕ)) → (view_in G log old.logs).bodies ≡ Some told →
               LeavesNow G log new.logs (λ list. (list ≡ list_in log (stored_of old.state)) ⊎ (list ≡ list_in log those)))
               (sym stored) b.left;
+          apart = subst (λ (those : Stored). IsApart log (stored_of old.state) those) (sym stored) b.apart;
         }))
         faults))
         writes.answers;
@@ -204,6 +205,7 @@ module _ {D A : Type 0} (G : Ghosts D) (event : Cluster → Answer A) (log : Log
     leaves = λ any. subst (λ (those : Stored). (told : List (List ℕ)) → (view_in G any old.logs).bodies ≡ Some told →
         AddsTo G any old.logs new.logs (λ list. (list ≡ list_in any (stored_of old.state)) ⊎ (list ≡ list_in any those)))
         (sym stored) (acts.leaves any);
+    keeps = acts.keeps;
   }
 
   -- ---- its event was done, and its worker reads
@@ -237,6 +239,10 @@ module _ {D A : Type 0} (G : Ghosts D) (event : Cluster → Answer A) (log : Log
         AddsTo G any old.logs logs (λ list. (list ≡ list_in any (stored_of old.state)) ⊎ (list ≡ list_in any (stored_of (event old.state).1))))
         (sym reads.logs) ((writes-acts G event old mid log (Ok x) writes).leaves any))
 
+    keeps-to : (any : LogName) → KeepsOn (view_in G any old.logs) (view_in G any new.logs) (faults_in G any old.logs) (faults_in G any new.logs)
+    keeps-to any = subst (λ (logs : LogsState D). KeepsOn (view_in G any old.logs) (view_in G any logs) (faults_in G any old.logs) (faults_in G any logs))
+        (sym reads.logs) ((writes-acts G event old mid log (Ok x) writes).keeps any)
+
     others-to : HaveSameOthers log old.logs new.logs
     others-to = subst (λ (logs : LogsState D). HaveSameOthers log old.logs logs) (sym reads.logs) writes.others
 
@@ -249,6 +255,7 @@ module _ {D A : Type 0} (G : Ghosts D) (event : Cluster → Answer A) (log : Log
       name = reads.name ∙ writes.name;
       others = others-to;
       leaves = leaves-to (answers old.setting w call old.state).1 (sym stored);
+      keeps = keeps-to;
     }
 
     read-short : (leader : ℕ) → ready w old.state ≡ Some leader → written old.setting w call (deed_of call) leader old.state ≡ (event old.state).1 →
@@ -263,6 +270,7 @@ module _ {D A : Type 0} (G : Ghosts D) (event : Cluster → Answer A) (log : Log
           name = reads.name ∙ writes.name;
           others = others-to;
           leaves = leaves-to new.state (ap stored_of (sym state));
+          keeps = keeps-to;
         }
 
     pub read-submits : (leader : ℕ) → ready w old.state ≡ Some leader → written old.setting w call (deed_of call) leader old.state ≡ (event old.state).1 →

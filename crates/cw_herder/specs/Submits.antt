@@ -13,7 +13,7 @@ use Rattle.cw_model.specs.EventsItems.{read_config}
 use Rattle.cw_model.specs.Reopening.{stored_of}
 use Rattle.cw_ops.specs.declared.answering.Answers.{Answers}
 use Rattle.cw_ops.specs.Requests.{HasWritten, answers}
-use Rattle.cw_world.specs.Logs.{HaveSameOthers, AddsTo, view_in, list_in}
+use Rattle.cw_world.specs.Logs.{HaveSameOthers, KeepsOn, AddsTo, view_in, list_in, faults_in}
 use Rattle.cw_world.specs.World.{WorldState, Acts}
 
 -- Memory is wanting where a call has written and its worker is to read that. No other log changes, and of each log a
@@ -29,6 +29,8 @@ pub record StopsShort {D : Type 0} (G : Ghosts D) (w : ℕ) (call : Call) (old n
   pub leaves : (any : LogName) → (told : List (List ℕ)) → (view_in G any old.logs).bodies ≡ Some told →
       AddsTo G any old.logs new.logs (λ list. (list ≡ list_in any (stored_of old.state)) ⊎
       (list ≡ list_in any (stored_of new.state)))
+  pub keeps : (any : LogName) → KeepsOn (view_in G any old.logs) (view_in G any new.logs)
+      (faults_in G any old.logs) (faults_in G any new.logs)
 
 -- a call is answered and done as the model has it, or stops short of its end
 abbrev pub Submits : {D : Type 0} → Ghosts D → ℕ → Call → (old new : WorldState D) →

@@ -17,7 +17,7 @@ use Rattle.cw_model.specs.Phases.{is_ended}
 use Rattle.cw_model.specs.Reopening.{stored_of}
 use Rattle.cw_model.specs.StandsFor.{Stored}
 use Rattle.cw_model.specs.Steps.{told, fails_if_fenced, tells}
-use Rattle.cw_world.specs.Logs.{LogsState, HaveSameOthers, HasSameBodies, AddsTo, LeavesNow, view_in, list_in, faults_in}
+use Rattle.cw_world.specs.Logs.{LogsState, HaveSameOthers, HasSameBodies, KeepsOn, AddsTo, LeavesNow, IsApart, view_in, list_in, faults_in}
 use Rattle.cw_world.specs.World.{WorldState, Does, Acts, RunsOut, Breaks}
 use Rattle.cw_world.specs.Write.{FailsOn}
 use Rattle.cw_world.proofs.Acting.{does-acts, wants-acts}
@@ -91,6 +91,7 @@ module _ {D A : Type 0} (G : Ghosts D) (event other : Cluster → Answer A) (old
     left = subst (λ (a : Answer A). (told : List (List ℕ)) → (view_in G log old.logs).bodies ≡ Some told →
         LeavesNow G log new.logs (λ list. (list ≡ list_in log (stored_of old.state)) ⊎ (list ≡ list_in log (stored_of a.1))))
         (sym is) b.left;
+    apart = subst (λ (a : Answer A). IsApart log (stored_of old.state) (stored_of a.1)) (sym is) b.apart;
   }
 
   pub acts-is : Acts G event old new result → Acts G other old new result
@@ -105,6 +106,7 @@ module _ {D A : Type 0} (G : Ghosts D) (event other : Cluster → Answer A) (old
     setting = acts.setting;
     name = acts.name;
     others = acts.others;
+    keeps = acts.keeps;
     leaves = λ any. subst (λ (a : Answer A). (told : List (List ℕ)) → (view_in G any old.logs).bodies ≡ Some told →
         AddsTo G any old.logs new.logs (λ list. (list ≡ list_in any (stored_of old.state)) ⊎ (list ≡ list_in any (stored_of a.1))))
         (sym is) (acts.leaves any);
@@ -163,6 +165,8 @@ module _ {D A : Type 0} (G : Ghosts D) (i : ℕ) (event : Cluster → Answer A) 
           subst (λ (l : LogsState D). LeavesNow G acts.log l (λ list. (list ≡ list_in acts.log (stored_of old.state)) ⊎ (list ≡ list_in acts.log (stored_of (telling old.state).1)))) (sym t.logs)
           (subst (λ (stored : Stored). LeavesNow G acts.log mid.logs (λ list. (list ≡ list_in acts.log (stored_of old.state)) ⊎ (list ≡ list_in acts.log stored)))
           (sym (told-stored i (told tell (event old.state).0) (event old.state).1)) (b.left bodies told-is));
+      apart = subst (λ (stored : Stored). IsApart acts.log (stored_of old.state) stored)
+          (sym (told-stored i (told tell (event old.state).0) (event old.state).1)) b.apart;
     }
 
     leaves-told : (any : LogName) (bodies : List (List ℕ)) → (view_in G any old.logs).bodies ≡ Some bodies →
@@ -171,6 +175,9 @@ module _ {D A : Type 0} (G : Ghosts D) (i : ℕ) (event : Cluster → Answer A) 
         subst (λ (l : LogsState D). AddsTo G any old.logs l (λ list. (list ≡ list_in any (stored_of old.state)) ⊎ (list ≡ list_in any (stored_of (telling old.state).1)))) (sym t.logs)
         (subst (λ (stored : Stored). AddsTo G any old.logs mid.logs (λ list. (list ≡ list_in any (stored_of old.state)) ⊎ (list ≡ list_in any stored)))
         (sym (told-stored i (told tell (event old.state).0) (event old.state).1)) (acts.leaves any bodies is))
+
+    keeps-told : (any : LogName) → KeepsOn (view_in G any old.logs) (view_in G any new.logs) (faults_in G any old.logs) (faults_in G any new.logs)
+    keeps-told any = subst (λ (l : LogsState D). KeepsOn (view_in G any old.logs) (view_in G any l) (faults_in G any old.logs) (faults_in G any l)) (sym t.logs) (acts.keeps any)
 
     acts-told : Acts G telling old new answer
     acts-told = record {
@@ -185,6 +192,7 @@ module _ {D A : Type 0} (G : Ghosts D) (i : ℕ) (event : Cluster → Answer A) 
       name = t.name ∙ acts.name;
       others = subst (λ (l : LogsState D). HaveSameOthers acts.log old.logs l) (sym t.logs) acts.others;
       leaves = leaves-told;
+      keeps = keeps-told;
     }
 
   -- it was done
