@@ -1,5 +1,5 @@
 -- What an opening of the eight disks of a cluster answers. This project's own, as are the files.
-use Rattle.std.specs.Prelude.{◌≡◌, ◌⊎◌, ℕ, ◌==◌, Bool, List, [], ◌∷◌, Some, if◌then◌else◌}
+use Rattle.std.specs.Prelude.{◌≡◌, ◌≤◌, ◌⊎◌, ℕ, ◌==◌, Bool, List, [], ◌∷◌, Some, if◌then◌else◌}
 use Rattle.std.specs.List.{AllByRecursion}
 use Rattle.cw_types.specs.declared.logs.LogName.{LogName}
 use Rattle.cw_types.specs.declared.logs.LogName.TheVariants.{Config, Offsets, Status, Txn, Batches}
@@ -99,6 +99,10 @@ disk_in disk.StatusA disks = disks.status_a
 disk_in disk.StatusB disks = disks.status_b
 disk_in disk.Txn disks = disks.txn
 disk_in disk.Batches disks = disks.batches
+
+-- no disk's count of faults fell
+abbrev pub NoneFell : {D : Type 0} → Ghosts D → (old new : Disks D) → Type 0
+NoneFell G old new = (name : DiskName) → G.count (disk_in name old) ≤ G.count (disk_in name new)
 
 -- a disk failed: its count of faults rose to this one
 pub record FailedAt {D : Type 0} (count : D → ℕ) (old new : Disks D) (at : DiskName) (now : ℕ) : Type 0 where

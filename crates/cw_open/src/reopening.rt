@@ -12,7 +12,7 @@ ghost use Rattle.cw_open.specs.Judged.{AreLogsOf, IsSoundly, IsWhyNot, stored_by
 ghost use Rattle.cw_open.specs.Leaving.{IsNoDamage, IsSameBesidesSides, LeaveLists, StandForLists};
 ghost use Rattle.cw_open.specs.Opened.{IsSetBy, logs_in, opened_as, opened_by};
 ghost use Rattle.cw_open.specs.OpenedFrom.{AreFrom, DisksStay};
-ghost use Rattle.cw_open.specs.Reopened.{DiskFiles, FilesHold, TellAll};
+ghost use Rattle.cw_open.specs.Reopened.{DiskFiles, FilesHold, NoneFell, TellAll};
 ghost use Rattle.cw_open.specs.declared.reopen_fault.ReopenCause.TheVariants.{Memory};
 
 use crate::agreeing::feeds_agree;
@@ -60,6 +60,10 @@ pub fn reopen<D: Disk>(
     // Else why, and the disks come back: a stop left of them what it might have left before, or the same lists.
     ensures cause { IfErr result (IsWhyNot D.Disk disks) }
     ensures stay { IfErr result (λ fault. DisksStay D.Disk disks fault.disks) }
+
+    // No disk's count of faults fell.
+    ensures later { MatchResult result (λ world. NoneFell D.Disk disks (all_disks_of world.logs))
+        (λ fault. NoneFell D.Disk disks fault.disks) }
 {
     match judge_disks(alloc, disks) {
         Ok(judged) => build(alloc, judged, feeds, group, delay),

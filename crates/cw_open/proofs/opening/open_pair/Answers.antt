@@ -1,6 +1,6 @@
 use Rattle.std.proofs.Common.{◌∙◌, IsSome, refl, sym, subst}
 use Rattle.cw_log.specs.Log.{kind_of}
-use Rattle.cw_pair.specs.State.{Opens}
+use Rattle.cw_open.specs.OpenedFrom.{PairStays}
 use Rattle.cw_open.proofs.Steps.{refuted}
 use Rattle.cw_open.proofs.OpeningLemmas.{begins-empty, numbered-by}
 use Rattle.cw_open.proofs.opening.open_pair.Goals as goal
@@ -39,14 +39,27 @@ returns-else-not-counts-clause-opened g c =
       from = record {
         kind = c.in-Ok.ensures.new.0;
         tells = λ file_a file_b told_a told_b. let list = c.in-Ok.ensures.list file_a told_a file_b told_b in subst (λ o. IsSome o) (sym list.1) refl;
-        stays = λ file_a file_b told_a told_b. c.in-Ok.ensures.any_moment file_a told_a file_b told_b;
+        side = λ file_a file_b told_a told_b. c.in-Ok.ensures.side file_a told_a file_b told_b;
+        bytes = λ file_a file_b told_a told_b. c.in-Ok.ensures.bytes file_a told_a file_b told_b;
+        stays = record {
+          leaves = λ file_a file_b told_a told_b. c.in-Ok.ensures.any_moment file_a told_a file_b told_b;
+          later_a = c.in-Ok.ensures.later 0;
+          later_b = c.in-Ok.ensures.later 1;
+        };
         rest = λ told is list since. c.rest.ensures.left c.in-Ok.ensures.new.2 told is list since;
       };
     }
 
 pub returns-then-not-counts-clause-stays : goal.returns-then-not-counts-clause-stays
-returns-then-not-counts-clause-stays g c = λ file_a file_b told_a told_b.
-    subst (Opens g.D.Disk (kind_of c.args.name) file_a file_b (record { a = c.args.a; b = c.args.b })) (sym c.give_back-a.ensures.disks) (c.in-Ok.ensures.any_moment file_a told_a file_b told_b)
+returns-then-not-counts-clause-stays g c = subst (PairStays g.D.Disk c.args.name c.args.a c.args.b) (sym c.give_back-a.ensures.disks) (record {
+  leaves = λ file_a file_b told_a told_b. c.in-Ok.ensures.any_moment file_a told_a file_b told_b;
+  later_a = c.in-Ok.ensures.later 0;
+  later_b = c.in-Ok.ensures.later 1;
+})
 
 pub returns-in-Err-clause-stays : goal.returns-in-Err-clause-stays
-returns-in-Err-clause-stays g c = λ file_a file_b told_a told_b. c.in-Err.ensures.any_moment file_a told_a file_b told_b
+returns-in-Err-clause-stays g c = record {
+  leaves = λ file_a file_b told_a told_b. c.in-Err.ensures.any_moment file_a told_a file_b told_b;
+  later_a = c.in-Err.ensures.later 0;
+  later_b = c.in-Err.ensures.later 1;
+}

@@ -1,7 +1,6 @@
 use Rattle.std.proofs.Common.{◌∙◌, IsSome, refl, sym, subst}
-use Rattle.cw_disk.specs.Told.{Adds}
-use Rattle.cw_log.specs.Log.{StandAlike, kind_of}
 use Rattle.cw_log.proofs.OneReading.{stands_for_one}
+use Rattle.cw_open.specs.OpenedFrom.{TopicStays}
 use Rattle.cw_open.proofs.Steps.{refuted}
 use Rattle.cw_open.proofs.OpeningLemmas.{begins-empty}
 use Rattle.cw_open.proofs.opening.open_topic.Goals as goal
@@ -31,12 +30,16 @@ returns-else-not-counts-clause-opened g c =
       from = record {
         kind = c.in-Ok.ensures.new.0;
         tells = λ file told. let list = c.in-Ok.ensures.list file told in subst (λ o. IsSome o) (sym list.1) refl;
-        stays = λ file told. c.in-Ok.ensures.any_moment file told;
+        bytes = c.in-Ok.ensures.bytes;
+        stays = record { leaves = c.in-Ok.ensures.any_moment; later = c.in-Ok.ensures.later };
         rest = λ told is list since. stands_for_one c.in-Ok.log.kind list told since.image since.stands
             (c.rest.ensures.left c.in-Ok.ensures.new.2 told is since.image (g.met.D.Disk.only_now c.in-Ok.log.disk since.image since.left));
       };
     }
 
 pub returns-then-not-counts-clause-stays : goal.returns-then-not-counts-clause-stays
-returns-then-not-counts-clause-stays g c = λ file told.
-    subst (λ d. Adds g.D.Disk c.args.disk d (StandAlike (kind_of c.args.name) file)) (sym c.give_back.ensures.disk) (c.in-Ok.ensures.any_moment file told)
+returns-then-not-counts-clause-stays g c =
+    subst (TopicStays g.D.Disk c.args.name c.args.disk) (sym c.give_back.ensures.disk) (record { leaves = c.in-Ok.ensures.any_moment; later = c.in-Ok.ensures.later })
+
+pub returns-in-Err-clause-stays : goal.returns-in-Err-clause-stays
+returns-in-Err-clause-stays g c = record { leaves = c.in-Err.ensures.any_moment; later = c.in-Err.ensures.later }

@@ -8,7 +8,7 @@ use Rattle.cw_open.specs.Reopened.{DiskFiles, FilesHold, TellAll}
 use Rattle.cw_open.proofs.CauseLemmas.{kept-part}
 use Rattle.cw_open.proofs.LeavingLemmas.{told-left}
 use Rattle.cw_open.proofs.ReopenLemmas.{again, judged-stand, memory-why, no-damage, world-holds}
-use Rattle.cw_open.proofs.StayLemmas.{given-stay}
+use Rattle.cw_open.proofs.StayLemmas.{answer-none-fell, given-stay, none-fell}
 use Rattle.cw_open.proofs.reopening.reopen.Goals as goal
 
 pub returns-in-Ok-clause-stands : goal.returns-in-Ok-clause-stands
@@ -49,3 +49,9 @@ returns-in-Err-clause-left g c = λ files stored s tell leave stand.
 
 pub returns-in-Ok-clause-stay : goal.returns-in-Ok-clause-stay
 returns-in-Ok-clause-stay g c = given-stay g.D.Disk c.args.disks (logs_in c.in-Ok.judged) c.build.result c.in-Ok.ensures.from c.build.ensures.disks
+
+pub returns-in-Ok-clause-later : goal.returns-in-Ok-clause-later
+returns-in-Ok-clause-later g c = answer-none-fell g.D.Disk c.args.disks c.build.result (returns-in-Ok-clause-from g c) (returns-in-Ok-clause-stay g c)
+
+pub returns-in-Err-clause-later : goal.returns-in-Err-clause-later
+returns-in-Err-clause-later g c = none-fell g.D.Disk c.args.disks c.in-Err.fault.disks c.in-Err.ensures.stay
