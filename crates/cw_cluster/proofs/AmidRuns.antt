@@ -14,8 +14,9 @@ use Rattle.cw_model.specs.State.{Setting, Cluster}
 use Rattle.cw_model.specs.Facts.{AreFacts}
 use Rattle.cw_model.specs.Lookups.{row_of}
 use Rattle.cw_model.specs.Runs as step
-use Rattle.cw_cluster.specs.Amid.{IsAmid}
+use Rattle.cw_cluster.specs.Amid.{IsAmid, IsHalfSettled, ran_behind, IsRanAmid}
 use Rattle.cw_cluster.specs.Directives.{does}
+use Rattle.cw_cluster.specs.Ran.{Ran, alone}
 use Rattle.cw_cluster.specs.Reaches.{Reaches, HaveNames}
 use Rattle.cw_cluster.specs.Rules.{IsSaidAmid, IsLineAmid}
 use Rattle.cw_cluster.specs.Requests.{seen_now, would_succeed, call_of, written}
@@ -41,7 +42,7 @@ module _ (setting : Setting) (feeds : HaveNames setting) (s : Cluster) (f : AreF
   either-run d t is (inr same) = subst (Reaches setting s) (sym same) (directive-runs setting feeds d is s f)
 
   pub amid-runs : (d : Directive) (t : Cluster) → IsSayable d → IsAmid setting d s t → Reaches setting s t
-  amid-runs (Settle most) t is amid = subst (Reaches setting s) (sym amid.is) (settled-runs setting s f amid.moved)
+  amid-runs (Settle most) t is amid = subst (Reaches setting s) (sym amid.is) (settled-runs setting s f amid.moved (alone s) (stays setting s))
   amid-runs (Rest w method target body) t is (inl same) = subst (Reaches setting s) (sym same) (stays setting s)
   amid-runs (Rest w method target body) t is (inr (inl half)) =
       let call : Call = call_of method target body in
@@ -62,11 +63,44 @@ module _ (setting : Setting) (feeds : HaveNames setting) (s : Cluster) (f : AreF
   amid-runs (Take topic from) t is amid = either-run (Take topic from) t is amid
   amid-runs (Compact name) t is amid = either-run (Compact name) t is amid
 
-  said-amid-runs : (result : Result (Option Directive) LineKind) (t : Cluster) → ((d : Directive) → result ≡ Ok (Some d) → IsSayable d) → IsSaidAmid setting result s t → Reaches setting s t
-  said-amid-runs (Ok (Some d)) t is amid = amid-runs d t (is d refl) amid.1
+-- ---- with the files
+
+module _ (setting : Setting) (feeds : HaveNames setting) (r : Ran) (f : AreFacts setting r.cluster) where
+  abbrev At : Ran → Type 0
+  At t = Reaches setting r.cluster t.cluster
+
+  half-run : (most : ℕ) (t : Ran) → IsHalfSettled setting most r t → At t
+  half-run most t half = subst At (sym half.is) (settled-runs setting r.cluster f half.moved r (stays setting r.cluster))
+
+  behind-run : (d : Directive) (t : Ran) → IsSayable d → t ≡ ran_behind setting d r → At t
+  behind-run d t is same = subst At (sym same) (directive-runs setting feeds d is r.cluster f)
+
+  ran-amid-runs : (d : Directive) (t : Ran) → IsSayable d → IsRanAmid setting d r t → At t
+  ran-amid-runs (Settle most) t is (inl half) = half-run most t half
+  ran-amid-runs (Settle most) t is (inr off) =
+      subst (Reaches setting r.cluster) (sym off.cut.cluster) (subst At (sym off.is) (settled-runs setting r.cluster f off.moved r (stays setting r.cluster)))
+  ran-amid-runs (Rest w method target body) t is amid = amid-runs setting feeds r.cluster f (Rest w method target body) t.cluster is amid.cluster
+  ran-amid-runs (Step i) t is (inl same) = behind-run (Step i) t is same
+  ran-amid-runs (Step i) t is (inr off) = subst (Reaches setting r.cluster) (sym off.cluster) (stays setting r.cluster)
+  ran-amid-runs (Init n) t is amid = behind-run (Init n) t is amid
+  ran-amid-runs (Commit n epoch pairs) t is amid = behind-run (Commit n epoch pairs) t is amid
+  ran-amid-runs Spawn t is amid = behind-run Spawn t is amid
+  ran-amid-runs (Kill w) t is amid = behind-run (Kill w) t is amid
+  ran-amid-runs (Deaf w) t is amid = behind-run (Deaf w) t is amid
+  ran-amid-runs (Hear w) t is amid = behind-run (Hear w) t is amid
+  ran-amid-runs (Expire w) t is amid = behind-run (Expire w) t is amid
+  ran-amid-runs (Clock to) t is amid = behind-run (Clock to) t is amid
+  ran-amid-runs (Tick w) t is amid = behind-run (Tick w) t is amid
+  ran-amid-runs (Held w) t is amid = behind-run (Held w) t is amid
+  ran-amid-runs (Member w) t is amid = behind-run (Member w) t is amid
+  ran-amid-runs (Take topic from) t is amid = behind-run (Take topic from) t is amid
+  ran-amid-runs (Compact name) t is amid = behind-run (Compact name) t is amid
+
+  said-amid-runs : (result : Result (Option Directive) LineKind) (t : Ran) → ((d : Directive) → result ≡ Ok (Some d) → IsSayable d) → IsSaidAmid setting result r t → At t
+  said-amid-runs (Ok (Some d)) t is amid = ran-amid-runs d t (is d refl) amid.1
   said-amid-runs (Ok None) t is amid = absurd amid
   said-amid-runs (Err kind) t is amid = absurd amid
 
-  pub line-amid-runs : (number : ℕ) (line : List ℕ) (t : Cluster) → IsLineAmid setting number line s t → Reaches setting s t
-  line-amid-runs number line t (inl same) = subst (Reaches setting s) (sym same) (stays setting s)
+  pub line-amid-runs : (number : ℕ) (line : List ℕ) (t : Ran) → IsLineAmid setting number line r t → At t
+  line-amid-runs number line t (inl same) = subst At (sym same) (stays setting r.cluster)
   line-amid-runs number line t (inr amid) = said-amid-runs (line_of line) t (λ d is. line_sayable line d is) amid

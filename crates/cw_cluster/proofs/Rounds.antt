@@ -5,20 +5,18 @@ use Rattle.std.proofs.lemmas.Bool.{ne_eqb, eqb-false}
 use Rattle.std.proofs.lemmas.Bool.Decides.{eqb_tells}
 use Rattle.cw_model.specs.declared.fault.WorldFault.{WorldFault}
 use Rattle.cw_model.specs.State.{Setting, Cluster}
-use Rattle.cw_model.specs.Answers.{Answer}
 use Rattle.cw_model.specs.Lookups.{row_of}
-use Rattle.cw_model.specs.Steps.{step}
-use Rattle.cw_model.specs.Tick.{tick}
 use Rattle.cw_cluster.specs.declared.turn.TurnFault.{TurnFault}
 use Rattle.cw_cluster.specs.declared.turn.TurnFault.TheVariants as halt
-use Rattle.cw_cluster.specs.Amid.{IsAmidSettling}
+use Rattle.cw_cluster.specs.Amid.{IsHalfSettled, IsCutSettling}
+use Rattle.cw_cluster.specs.Ran.{Ran, RanAnswer, ran_tick, ran_step}
 use Rattle.cw_cluster.specs.Settling.{Settled, tick_moves, step_moves, behind_turn, takes, ticks, may_step, steps, all_tick, all_step, round, rounds, settled}
-use Rattle.cw_cluster.specs.Turning.{Turns, moved_to, LeadsTo, none_left, IsStage, Stops, HasSettled}
+use Rattle.cw_cluster.specs.Turning.{Turns, moved_to, LeadsTo, none_left, IsStage, IsCutStage, Stops, HasSettled}
 use Rattle.cw_cluster.proofs.Turns.{IsOver, over-enough, AreIdle, idle-round, leads-then, stops-then}
 
 -- ---- what has moved stays moved
 
-takes-rises : {A : Type 0} (k : ℕ) (there : Bool) (moves : A → Bool) (turn : Answer A) (g : Settled) → g.moved ≤ (takes k there moves turn g).moved
+takes-rises : {A : Type 0} (k : ℕ) (there : Bool) (moves : A → Bool) (turn : RanAnswer A) (g : Settled) → g.moved ≤ (takes k there moves turn g).moved
 takes-rises {A} k there moves turn g = either (there && (nat_lt g.moved k && is_none g.refused)) where
   counted : (b : Bool) → g.moved ≤ (if b then g.moved + 1 else g.moved)
   counted true = omega arith
@@ -39,8 +37,8 @@ fold-rises turn each (x ∷ xs) g = omega (arith, each g x, fold-rises turn each
 round-rises : (setting : Setting) (k : ℕ) (g : Settled) → g.moved ≤ (round setting k g).moved
 round-rises setting k g =
     let mid : Settled = all_tick k g in
-    let first : g.moved ≤ mid.moved = fold-rises (ticks k) (λ h w. takes-rises k (row_of w h.cluster).live tick_moves (tick w h.cluster) h) (range_with_len 0 (length g.cluster.rows)) g in
-    let second : mid.moved ≤ (all_step setting k mid).moved = fold-rises (steps setting k) (λ h i. takes-rises k (may_step i h.cluster) step_moves (step setting i h.cluster) h) (range_with_len 0 (length mid.cluster.instances)) mid in
+    let first : g.moved ≤ mid.moved = fold-rises (ticks k) (λ h w. takes-rises k (row_of w h.ran.cluster).live tick_moves (ran_tick w h.ran) h) (range_with_len 0 (length g.ran.cluster.rows)) g in
+    let second : mid.moved ≤ (all_step setting k mid).moved = fold-rises (steps setting k) (λ h i. takes-rises k (may_step i h.ran.cluster) step_moves (ran_step setting i h.ran) h) (range_with_len 0 (length mid.ran.cluster.instances)) mid in
     omega (arith, first, second)
 
 -- ---- rounds
@@ -89,7 +87,7 @@ module _ (setting : Setting) where
         either true later is = refl
         either false later is = later is
 
-  rounds-split : (moved : ℕ) (u : Cluster) (k : ℕ) → moved ≤ k → rounds_left k (moved_to moved u) ≡ rounds_behind moved k (round setting k (moved_to moved u))
+  rounds-split : (moved : ℕ) (u : Ran) (k : ℕ) → moved ≤ k → rounds_left k (moved_to moved u) ≡ rounds_behind moved k (round setting k (moved_to moved u))
   unfolding rounds
   rounds-split moved u k low = at (k - moved) refl where
     next : Settled
@@ -117,19 +115,19 @@ module _ (setting : Setting) where
 
   -- ---- a cluster settles
 
-  module _ (most : ℕ) (s : Cluster) where
+  module _ (most : ℕ) (s : Ran) where
     -- how far it has settled behind some rounds
-    abbrev pub SettlesTo : ℕ → Cluster → Type 0
+    abbrev pub SettlesTo : ℕ → Ran → Type 0
     SettlesTo moved u = LeadsTo all_rounds rounds_left most 0 s moved u
 
     pub settles-none : SettlesTo 0 s
     settles-none = record { rises = omega arith; within = omega arith; same = λ k low high. ap (λ (c : ℕ). rounds setting k c (moved_to 0 s)) (let same : k ≡ k - 0 = omega arith in same) }
 
-    module _ (moved : ℕ) (u : Cluster) (so_far : SettlesTo moved u) where
-      behind : (to : ℕ) (t : Cluster) → LeadsTo (round setting) none_left most moved u to t → LeadsTo all_rounds (rounds_behind moved) most 0 s to t
+    module _ (moved : ℕ) (u : Ran) (so_far : SettlesTo moved u) where
+      behind : (to : ℕ) (t : Ran) → LeadsTo (round setting) none_left most moved u to t → LeadsTo all_rounds (rounds_behind moved) most 0 s to t
       behind to t next = leads-then all_rounds rounds_left (round setting) (rounds_behind moved) most 0 s moved u so_far (λ k low high. rounds-split moved u k low) to t next
 
-      pub settles-next : (to : ℕ) (t : Cluster) → LeadsTo (round setting) none_left most moved u to t → (to ≡ moved → ⊥) → SettlesTo to t
+      pub settles-next : (to : ℕ) (t : Ran) → LeadsTo (round setting) none_left most moved u to t → (to ≡ moved → ⊥) → SettlesTo to t
       settles-next to t next differ =
           let led = behind to t next in
           record {
@@ -138,29 +136,40 @@ module _ (setting : Setting) where
             same = λ k low high. led.same k low high ∙ ap (λ (b : Bool). if b then moved_to to t else rounds setting k (k - to) (moved_to to t)) (ne_eqb to moved differ);
           }
 
-      pub settles-done : (to : ℕ) (t : Cluster) → LeadsTo (round setting) none_left most moved u to t → to ≡ moved → HasSettled setting most s t to
+      pub settles-done : (to : ℕ) (t : Ran) → LeadsTo (round setting) none_left most moved u to t → to ≡ moved → HasSettled setting most s t to
       settles-done to t next same =
           let led = behind to t next in
           let ends : settled setting most s ≡ moved_to to t =
           led.same most next.within (omega arith) ∙ ap (λ (b : Bool). if b then moved_to to t else rounds setting most (most - to) (moved_to to t)) (ap (λ (n : ℕ). n == moved) same ∙ eqb-same moved) in
           record {
-            cluster = sym (ap (λ (g : Settled). g.cluster) ends);
+            ran = sym (ap (λ (g : Settled). g.ran) ends);
             count = sym (ap (λ (g : Settled). g.moved) ends);
             refused = ap (λ (g : Settled). g.refused) ends;
           }
 
-      amid : (t : Cluster) → IsStage all_rounds most 0 s t → IsAmidSettling setting most s t
-      amid t stage = record { moved = stage.moved; fewer = stage.within; is = sym (ap (λ (g : Settled). g.cluster) stage.is) }
+      amid : (t : Ran) → IsStage all_rounds most 0 s t → IsHalfSettled setting most s t
+      amid t stage = record { moved = stage.moved; fewer = stage.within; is = sym (ap (λ (g : Settled). g.ran) stage.is) }
 
-      all-stop : (broken : Cluster → Cluster → Type 0) (t : Cluster) (fault : TurnFault) → Stops broken setting (settled setting most s) (IsStage all_rounds most 0 s) t fault
-          → Stops broken setting (settled setting most s) (IsAmidSettling setting most s) t fault
+      amid-cut : (t : Ran) → IsCutStage setting all_rounds most 0 s t → IsCutSettling setting most s t
+      amid-cut t stage = record {
+        moved = stage.moved;
+        fewer = stage.within;
+        at = stage.at;
+        is = sym (ap (λ (g : Settled). g.ran) stage.is);
+        instance = stage.instance;
+        cut = stage.cut;
+        next = λ held told opened. sym (ap (λ (g : Settled). g.ran) (stage.next held told opened));
+      }
+
+      all-stop : (broken : Ran → Cluster → Type 0) (t : Ran) (fault : TurnFault) → Stops broken setting (settled setting most s) (IsStage all_rounds most 0 s) (IsCutStage setting all_rounds most 0 s) t fault
+          → Stops broken setting (settled setting most s) (IsHalfSettled setting most s) (IsCutSettling setting most s) t fault
       all-stop broken t (halt.Refused fault) is = is
       all-stop broken t halt.Memory is = amid t is
       all-stop broken t (halt.Store disk count) is = record { at = is.at; next = is.next; came = amid is.at is.came; turn = is.turn; left = is.left }
-      all-stop broken t halt.Outlet is = amid t is
+      all-stop broken t halt.Outlet is = amid-cut t is
 
-      pub settles-stop : (broken : Cluster → Cluster → Type 0) (t : Cluster) (fault : TurnFault) → Stops broken setting (round setting most (moved_to moved u)) (IsStage (round setting) most moved u) t fault
-          → Stops broken setting (settled setting most s) (IsAmidSettling setting most s) t fault
+      pub settles-stop : (broken : Ran → Cluster → Type 0) (t : Ran) (fault : TurnFault) → Stops broken setting (round setting most (moved_to moved u)) (IsStage (round setting) most moved u) (IsCutStage setting (round setting) most moved u) t fault
+          → Stops broken setting (settled setting most s) (IsHalfSettled setting most s) (IsCutSettling setting most s) t fault
       settles-stop broken t fault is =
           all-stop broken t fault (stops-then all_rounds rounds_left (round setting) (rounds_behind moved) most 0 s moved u so_far (λ k low high. rounds-split moved u k low)
           broken setting t fault (idle-rounds_behind moved) is)

@@ -23,6 +23,7 @@ use Rattle.cw_cluster.specs.Directives.{does}
 use Rattle.cw_cluster.specs.Events.{came_to, comes_to, compacted, event_of, found, settling, subject_of}
 use Rattle.cw_cluster.specs.Looks.{id_words, record_words}
 use Rattle.cw_cluster.specs.Outcomes.{outcome_words, incarnation_words}
+use Rattle.cw_cluster.specs.Ran.{alone}
 use Rattle.cw_cluster.specs.Requests.{answers, call_of}
 use Rattle.cw_cluster.specs.Settling.{Settled, settled, settled_told}
 
@@ -47,7 +48,7 @@ found-words group None = refl
 found-words group (Some p) = refl
 
 settled-words : (setting : Setting) (o : Option WorldFault) (g : Settled) →
-    settled_told setting o g ≡ told 0 (settling setting o g, g.cluster) (outcome_words setting.group)
+    settled_told setting o g ≡ told 0 (settling setting o g, g.ran.cluster) (outcome_words setting.group)
 settled-words setting None g = refl
 settled-words setting (Some fault) g = refl
 
@@ -66,7 +67,7 @@ does-event setting (Expire w) s = told-words setting.group w (λ _. came.Expired
 does-event setting (Clock to) s = told-words setting.group 0 came.Clock (λ now. codes "clock" ∷ decimal now ∷ []) (clock to s) (λ x. refl)
 does-event setting (Tick w) s = told-words setting.group w (came.Tick w) _ (tick w s) (λ x. refl)
 does-event setting (Step i) s = told-words setting.group i (came.Step i) _ (step setting i s) (λ x. refl)
-does-event setting (Settle most) s = let g : Settled = settled setting most s in settled-words setting g.refused g
+does-event setting (Settle most) s = let g : Settled = settled setting most (alone s) in settled-words setting g.refused g
 does-event setting (Rest w method target body) s =
     told-words setting.group w came.Replied _ (answers setting w (call_of method target body) s) (λ x. refl)
 does-event setting (Held w) s = refl

@@ -19,6 +19,7 @@ use Rattle.cw_model.specs.Steps.{step}
 use Rattle.cw_cluster.specs.declared.outcome.Outcome.{Outcome}
 use Rattle.cw_cluster.specs.declared.outcome.Outcome.TheVariants as came
 use Rattle.cw_cluster.specs.Answers.{pair_of}
+use Rattle.cw_cluster.specs.Ran.{alone}
 use Rattle.cw_cluster.specs.Requests.{answers, call_of}
 use Rattle.cw_cluster.specs.Settling.{Settled, settled, is_quiet}
 
@@ -33,7 +34,7 @@ comes_to outcome done = (came_to outcome done.0, done.1)
 
 -- how a cluster settled
 abbrev pub settling : Setting → Option WorldFault → Settled → Result Outcome WorldFault
-settling setting None g = Ok (came.Settled (is_quiet setting g.cluster) g.moved)
+settling setting None g = Ok (came.Settled (is_quiet setting g.ran.cluster) g.moved)
 settling setting (Some fault) g = Err fault
 
 -- a committed record that was looked for
@@ -66,7 +67,8 @@ event_of setting (Expire w) s = comes_to (λ _. came.Expired w) (expire setting 
 event_of setting (Clock to) s = comes_to came.Clock (clock to s)
 event_of setting (Tick w) s = comes_to (came.Tick w) (tick w s)
 event_of setting (Step i) s = comes_to (came.Step i) (step setting i s)
-event_of setting (Settle most) s = let g = settled setting most s in (settling setting g.refused g, g.cluster)
+event_of setting (Settle most) s =
+    let g = settled setting most (alone s) in (settling setting g.refused g, g.ran.cluster)
 event_of setting (Rest w method target body) s =
     comes_to came.Replied (answers setting w (call_of method target body) s)
 event_of setting (Held w) s = answered (came.Held w (held w s)) s
@@ -93,26 +95,7 @@ subject_of (Member w) = w
 subject_of (Take topic from) = 0
 subject_of (Compact log) = 0
 
--- a directive that makes one event, or none
-abbrev pub IsOneEvent : Directive → Type 0
-IsOneEvent (Init n) = Unit {0}
-IsOneEvent (Commit n epoch pairs) = Unit {0}
-IsOneEvent Spawn = Unit {0}
-IsOneEvent (Kill w) = Unit {0}
-IsOneEvent (Deaf w) = Unit {0}
-IsOneEvent (Hear w) = Unit {0}
-IsOneEvent (Expire w) = Unit {0}
-IsOneEvent (Clock to) = Unit {0}
-IsOneEvent (Tick w) = Unit {0}
-IsOneEvent (Step i) = Unit {0}
-IsOneEvent (Settle most) = ⊥
-IsOneEvent (Rest w method target body) = ⊥
-IsOneEvent (Held w) = Unit {0}
-IsOneEvent (Member w) = Unit {0}
-IsOneEvent (Take topic from) = Unit {0}
-IsOneEvent (Compact log) = Unit {0}
-
--- one that is of the world alone, and compacts nothing
+-- a directive that is of the world alone
 abbrev pub IsPlain : Directive → Type 0
 IsPlain (Init n) = Unit {0}
 IsPlain (Commit n epoch pairs) = Unit {0}
@@ -129,4 +112,4 @@ IsPlain (Rest w method target body) = ⊥
 IsPlain (Held w) = Unit {0}
 IsPlain (Member w) = Unit {0}
 IsPlain (Take topic from) = Unit {0}
-IsPlain (Compact log) = ⊥
+IsPlain (Compact log) = Unit {0}

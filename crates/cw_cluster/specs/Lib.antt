@@ -1,6 +1,7 @@
 pub mod Directives
 pub mod Answers
 pub use Rattle.cw_ops.specs.Requests
+pub mod Ran
 pub mod Settling
 pub mod Turning
 pub mod Resting
@@ -11,7 +12,11 @@ pub mod Saying
 pub mod Stepping
 pub mod Run
 pub mod Amid
+pub mod Breaking
+pub mod Broken
 pub mod Playing
 pub mod Rules
 pub mod Reaches
+pub mod Driven
+pub mod Lined
 pub mod Scripts

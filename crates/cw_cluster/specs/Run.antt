@@ -45,7 +45,7 @@ missing (Compact log) s = None
 -- ---- lines
 
 -- an answer is a line; where the event can't be answered, the script ends
-abbrev pub played : Result (List ℕ) DriveEnd → Cluster → Played Cluster
+abbrev pub played : {S : Type 0} → Result (List ℕ) DriveEnd → S → Played S
 played (Ok text) s = record { text = text ++ 10 ∷ []; store = s; stop = None }
 played (Err end) s = stopped end s
 

@@ -8,21 +8,21 @@ use Rattle.cw_model.specs.declared.fault.WorldFault.{WorldFault}
 use Rattle.cw_model.specs.declared.tick.Tick.{Tick}
 use Rattle.cw_model.specs.declared.tick.Tick.TheVariants as outcome
 use Rattle.cw_model.specs.State.{Setting, Cluster}
-use Rattle.cw_model.specs.Answers.{Answer}
 use Rattle.cw_model.specs.EventsItems.{is_active}
 use Rattle.cw_model.specs.Lookups.{row_of, instance_of}
 use Rattle.cw_model.specs.Phases.{has_failed, is_ended}
 use Rattle.cw_model.specs.Steps.{step}
-use Rattle.cw_model.specs.Tick.{rule_for, tick}
+use Rattle.cw_model.specs.Tick.{rule_for}
 use Rattle.cw_cluster.specs.Answers.{Told, says, refusal}
+use Rattle.cw_cluster.specs.Ran.{Ran, RanAnswer, alone, ran_tick, ran_step}
 
 -- ---- turns
 
--- how far it settled: how often something moved, and what refused to
+-- how far it settled: how often something moved, what refused to, and how far it ran
 pub record Settled : Type 0 where
   pub moved : ℕ
   pub refused : Option WorldFault
-  pub cluster : Cluster
+  pub ran : Ran
 
 -- whether a tick moved something
 abbrev pub tick_moves : Tick → Bool
@@ -38,19 +38,18 @@ step_moves did.Pending = false
 step_moves _ = true
 
 -- behind a turn
-abbrev pub behind_turn : {A : Type 0} → (A → Bool) → Result A WorldFault → Cluster → Settled → Settled
-behind_turn moves (Ok x) t g =
-    record { moved = if moves x then g.moved + 1 else g.moved; refused = None; cluster = t }
-behind_turn moves (Err fault) t g = record { moved = g.moved; refused = Some fault; cluster = t }
+abbrev pub behind_turn : {A : Type 0} → (A → Bool) → Result A WorldFault → Ran → Settled → Settled
+behind_turn moves (Ok x) t g = record { moved = if moves x then g.moved + 1 else g.moved; refused = None; ran = t }
+behind_turn moves (Err fault) t g = record { moved = g.moved; refused = Some fault; ran = t }
 
 -- a turn is taken, unless enough has moved, something refused, or there is none to take
-abbrev pub takes : {A : Type 0} → (most : ℕ) → Bool → (A → Bool) → Answer A → Settled → Settled
+abbrev pub takes : {A : Type 0} → (most : ℕ) → Bool → (A → Bool) → RanAnswer A → Settled → Settled
 takes most there moves turn g =
     if there && (nat_lt g.moved most && is_none g.refused) then behind_turn moves turn.0 turn.1 g else g
 
 -- a worker ticks, unless it was killed
 abbrev pub ticks : (most : ℕ) → Settled → ℕ → Settled
-ticks most g w = takes most (row_of w g.cluster).live tick_moves (tick w g.cluster) g
+ticks most g w = takes most (row_of w g.ran.cluster).live tick_moves (ran_tick w g.ran) g
 
 -- whether an instance steps: it neither ended nor failed
 abbrev pub may_step : ℕ → Cluster → Bool
@@ -58,17 +57,17 @@ may_step i s = not (is_ended (instance_of i s).phase || has_failed (instance_of 
 
 -- an instance steps
 abbrev pub steps : Setting → (most : ℕ) → Settled → ℕ → Settled
-steps setting most g i = takes most (may_step i g.cluster) step_moves (step setting i g.cluster) g
+steps setting most g i = takes most (may_step i g.ran.cluster) step_moves (ran_step setting i g.ran) g
 
 -- ---- rounds
 
 -- each worker ticks once
 abbrev pub all_tick : (most : ℕ) → Settled → Settled
-all_tick most g = fold (ticks most) g (range_with_len 0 (length g.cluster.rows))
+all_tick most g = fold (ticks most) g (range_with_len 0 (length g.ran.cluster.rows))
 
 -- then each instance steps once, with those that the ticks began
 abbrev pub all_step : Setting → (most : ℕ) → Settled → Settled
-all_step setting most g = fold (steps setting most) g (range_with_len 0 (length g.cluster.instances))
+all_step setting most g = fold (steps setting most) g (range_with_len 0 (length g.ran.cluster.instances))
 
 -- a round
 abbrev pub round : Setting → (most : ℕ) → Settled → Settled
@@ -81,8 +80,8 @@ rounds setting most (suc count) g =
     let next = round setting most g in if next.moved == g.moved then next else rounds setting most count next
 
 -- a cluster settles, and something moves at most so many times
-abbrev pub settled : Setting → (most : ℕ) → Cluster → Settled
-settled setting most s = rounds setting most most (record { moved = 0; refused = None; cluster = s })
+abbrev pub settled : Setting → (most : ℕ) → Ran → Settled
+settled setting most r = rounds setting most most (record { moved = 0; refused = None; ran = r })
 
 -- ---- the answer
 
@@ -107,8 +106,9 @@ quiet_text false = codes "unquiet"
 
 -- how often something moved, and whether it is quiet now
 abbrev pub settled_told : Setting → Option WorldFault → Settled → Told
-settled_told setting None g = says (quiet_text (is_quiet setting g.cluster) ∷ decimal g.moved ∷ []) g.cluster
-settled_told setting (Some fault) g = (refusal 0 fault, g.cluster)
+settled_told setting None g =
+    says (quiet_text (is_quiet setting g.ran.cluster) ∷ decimal g.moved ∷ []) g.ran.cluster
+settled_told setting (Some fault) g = (refusal 0 fault, g.ran.cluster)
 
 abbrev pub settles : Setting → (most : ℕ) → Cluster → Told
-settles setting most s = let g = settled setting most s in settled_told setting g.refused g
+settles setting most s = let g = settled setting most (alone s) in settled_told setting g.refused g

@@ -1,16 +1,16 @@
 //! Plays a directive of a script over a world.
-ghost use Rattle.std.specs.Prelude.{◌≡◌, ◌<◌, length, None};
+ghost use Rattle.std.specs.Prelude.{◌≡◌, ◌≢◌, ◌<◌, length, Option, None, Err};
+ghost use Rattle.cw_io.specs.Shelf.{Files};
 ghost use Rattle.cw_script.specs.Spelling.{IsSayable};
 ghost use Rattle.cw_world.specs.World.{Acts};
-ghost use Rattle.cw_cluster.specs.Amid.{IsAmid};
-ghost use Rattle.cw_cluster.specs.Directives.{does};
+ghost use Rattle.cw_cluster.specs.Breaking.{IsAlive};
 ghost use Rattle.cw_cluster.specs.Events.{event_of, subject_of, IsPlain};
-ghost use Rattle.cw_cluster.specs.Playing.{IsPlayed, played_told};
+ghost use Rattle.cw_cluster.specs.Playing.{PlaysDirective};
 ghost use Rattle.cw_cluster.specs.Run.{missing, unless_worker, unless_instance};
 
 use crate::answers::Answers;
 use crate::events::{
-    clock, commit, deaf, expire, hear, held, init, kill, member, spawn, take, tick,
+    clock, commit, compact, deaf, expire, hear, held, init, kill, member, spawn, take, tick,
 };
 use crate::outcome::Outcome;
 use cw_disk::Disk;
@@ -31,10 +31,12 @@ pub(crate) fn play<D: Disk>(
     requires sayable { IsSayable directive.now }
     requires there { missing directive.now world.old.state ≡ None }
     requires plain { IsPlain directive.now }
-    ensures { IsPlayed D.Disk (played_told (does world.old.setting directive.now world.old.state))
-        (IsAmid world.old.setting directive.now world.old.state)
-        world.old world.new answers.old answers.new result }
+    requires alive { IsAlive D.Disk world.old }
+    ensures played { (files : Option Files) →
+        PlaysDirective D.Disk directive.now world.old world.new files files answers.old answers.new result }
+    ensures outlet { result ≢ Err DriveEnd.OutletFault }
 {
+    world.is_safe();
     let done = act(alloc, world, directive);
     answers.say(world.cluster().group_name(), subject_of(directive), done)
 }
@@ -65,10 +67,8 @@ fn act<D: Disk>(
         Directive::Held(w) => held(world, *w),
         Directive::Member(w) => Ok(member(world, *w)),
         Directive::Take { topic, from } => take(alloc, world, topic, *from),
-        Directive::Step(_)
-        | Directive::Settle(_)
-        | Directive::Rest { .. }
-        | Directive::Compact(_) => unreachable!(),
+        Directive::Compact(log) => compact(world, *log),
+        Directive::Step(_) | Directive::Settle(_) | Directive::Rest { .. } => unreachable!(),
     }
 }
 

@@ -2,7 +2,7 @@
 ghost use Rattle.std.specs.Prelude.{◌≡◌, ◌<◌, length, map, Ok, IfOk};
 ghost use Rattle.cw_data.specs.Log.{taken};
 ghost use Rattle.cw_model.specs.Lookups.{held};
-ghost use Rattle.cw_script.specs.Spelling.{IsCommit};
+ghost use Rattle.cw_script.specs.Spelling.{IsCommit, IsCompacted};
 ghost use Rattle.cw_script.specs.declared.directive.Directive.TheVariants as directive;
 ghost use Rattle.cw_world.specs.World.{Acts};
 ghost use Rattle.cw_cluster.specs.declared.outcome.Outcome.TheVariants as came;
@@ -13,7 +13,7 @@ use crate::outcome::Outcome;
 use cw_disk::Disk;
 use cw_model::WorldFault;
 use cw_script::PartEnd;
-use cw_types::{Epoch, Listed, Name};
+use cw_types::{Epoch, Listed, LogName, Name};
 use cw_world::World;
 use std::alloc::{AllocError, Global};
 
@@ -141,6 +141,17 @@ pub(crate) fn tick<D: Disk>(
     }
 }
 
+/// A log is compacted (Kafka's compacted topics).
+pub(crate) fn compact<D: Disk>(world: &mut World<D>, log: LogName) -> Result<Outcome, WorldFault>
+    requires { IsCompacted log }
+    ensures { Acts D.Disk (event_of world.old.setting (directive.Compact log)) world.old world.new result }
+{
+    match world.compact(log) {
+        Ok((before, after)) => Ok(Outcome::Compacted { log, before, after }),
+        Err(fault) => Err(fault),
+    }
+}
+
 /// The items that a worker holds.
 pub(crate) fn held<D: Disk>(world: &World<D>, w: u64) -> Result<Outcome, WorldFault>
     requires { w < length world.now.state.rows }
@@ -183,8 +194,8 @@ pub(crate) fn take<D: Disk>(
     }
 }
 
-// The number of a worker that there is: there are fewer than 2^32.
-fn number_of<D: Disk>(world: &World<D>, w: u64) -> u32
+/// The number of a worker that there is: there are fewer than 2^32.
+pub(crate) fn number_of<D: Disk>(world: &World<D>, w: u64) -> u32
     requires { w < length world.now.state.rows }
     ensures { result ≡ w }
 {

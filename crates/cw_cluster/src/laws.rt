@@ -10,10 +10,12 @@ ghost use Rattle.cw_model.specs.Tick.{tick};
 ghost use Rattle.cw_script.specs.declared.directive.Directive.{Directive};
 ghost use Rattle.cw_script.specs.Spelling.{IsSayable};
 ghost use Rattle.cw_lines.specs.Players.{player_of};
+ghost use Rattle.cw_lines.specs.Plays as plays;
 ghost use Rattle.cw_cluster.specs.Amid.{IsAmid};
+ghost use Rattle.cw_cluster.specs.Ran.{Ran};
 ghost use Rattle.cw_cluster.specs.Reaches.{Reaches, HaveNames};
 ghost use Rattle.cw_cluster.specs.Run.{play_line, run, run_of_lines};
-ghost use Rattle.cw_cluster.specs.Rules.{cluster_rules};
+ghost use Rattle.cw_cluster.specs.Rules.{drive_rules, in_cluster};
 ghost use Rattle.cw_cluster.specs.Settling.{settles};
 
 /// A worker's tick and an instance's step make events, each where it may be made.
@@ -49,12 +51,27 @@ pub fn each_interrupted_line_is_a_run()
         IsSayable directive → IsAmid setting directive s t → Reaches setting s t }
 {}
 
-/// The same of any line that was left on its way, and what is played by the rules is what the run of the script says.
+/// The same of any line that was left on its way, whatever became of the files; and what is played by the rules is, of
+/// the cluster, what the run of the script says: its answers, its end and the cluster's states don't hang on the files.
 pub fn each_line_on_its_way_is_a_run()
-    ensures amid { (setting : Setting) (number : ℕ) (line : List ℕ) (s t : Cluster) → HaveNames setting →
-        AreFacts setting s → cluster_rules.amid setting number line s t → Reaches setting s t }
-    ensures same { (setting : Setting) (number : ℕ) (line : List ℕ) (s : Cluster) →
-        player_of cluster_rules setting number line s ≡ play_line setting number line s }
+    ensures amid { (setting : Setting) (number : ℕ) (line : List ℕ) (r t : Ran) → HaveNames setting →
+        AreFacts setting r.cluster → drive_rules.amid setting number line r t → Reaches setting r.cluster t.cluster }
+    ensures same { (setting : Setting) (number : ℕ) (line : List ℕ) (r : Ran) →
+        in_cluster (player_of drive_rules setting number line r) ≡ play_line setting number line r.cluster }
+    ensures tells { (setting : Setting) (number : ℕ) (line : List ℕ) (r : Ran) →
+        (player_of drive_rules setting number line r).store.tells ≡ r.tells }
+{}
+
+/// The same of a whole script, of what was read of one so far, and of the first lines of one.
+pub fn each_script_is_played_alike()
+    ensures whole { (setting : Setting) (script : List ℕ) (r : Ran) →
+        in_cluster (plays.run (player_of drive_rules setting) r script) ≡ run setting r.cluster script }
+    ensures so_far { (setting : Setting) (script : List ℕ) (r : Ran) →
+        in_cluster (plays.run_so_far (player_of drive_rules setting) r script) ≡
+        plays.run_so_far (play_line setting) r.cluster script }
+    ensures lines { (setting : Setting) (count : ℕ) (script : List ℕ) (r : Ran) →
+        in_cluster (plays.behind_lines (player_of drive_rules setting) count script r) ≡
+        run_of_lines setting count r.cluster script }
 {}
 
 /// A state that is reached has all facts again, and so every state of a run is safe and has a true journal; and what

@@ -4,17 +4,24 @@
 //! byte for byte, and the state behind each. Its public functions carry worked cases and laws of that run, each as a
 //! contract: every state of a run is safe.
 //! Of the code that is to play a script it has, inside the crate and called by nothing yet, what settles a cluster, and
-//! what plays the directives that make one event or look.
+//! what plays all other directives over a world.
 //! It stands on the world and the steps over it, on the cluster's model and its laws, on the calls of the REST API and
 //! on the language of scripts.
 #![tactic(auto)]
 
 mod answers;
+mod begun;
 mod cases;
 mod directives;
+mod driving;
 mod events;
+mod flight_laws;
 mod laws;
 mod outcome;
+mod player;
+mod quiet;
+mod requests;
+mod running;
 mod settling;
 mod stepping;
 mod texts;
@@ -30,7 +37,10 @@ pub use cases::{
     zombie_is_fenced,
 };
 pub use cw_lines::DriveEnd;
+pub use driving::{Driven, drive};
+pub use flight_laws::what_is_in_flight_is_reached;
 pub use laws::{
     each_interrupted_line_is_a_run, each_line_is_a_run, each_line_on_its_way_is_a_run,
-    each_script_is_a_run, settling_is_a_run, turns_are_runs, what_is_reached_is_safe,
+    each_script_is_a_run, each_script_is_played_alike, settling_is_a_run, turns_are_runs,
+    what_is_reached_is_safe,
 };

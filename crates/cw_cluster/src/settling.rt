@@ -14,8 +14,8 @@ use std::alloc::{AllocError, Global};
 /// Rounds of turns, until a round moves nothing or so many turns have moved something. The answer is how many did.
 pub(crate) fn settle<T: Turning>(turning: &mut T, most: u64) -> Result<u64, TurnFault>
     requires alive { T.alive turning.old }
-    ensures settles { Settles (T.broken turning.new) (T.setting turning.old) most (T.cluster turning.old)
-        (T.cluster turning.new) result }
+    ensures settles { Settles (T.broken turning.new) (T.setting turning.old) most (T.ran turning.old)
+        (T.ran turning.new) result }
     ensures setting { T.setting turning.new ≡ T.setting turning.old }
     ensures alive { UnlessBroken (T.alive turning.new) result }
     ensures later { NoneFell (T.faults turning.old) (T.faults turning.new) }
@@ -36,7 +36,7 @@ fn take_round<T: Turning>(turning: &mut T, most: u64, moved: u64) -> Result<u64,
     requires alive { T.alive turning.old }
     requires few { moved ≤ most }
     ensures turns { TakesTurns (T.broken turning.new) (T.setting turning.old) (round (T.setting turning.old)) most
-        moved (T.cluster turning.old) (T.cluster turning.new) result }
+        moved (T.ran turning.old) (T.ran turning.new) result }
     ensures setting { T.setting turning.new ≡ T.setting turning.old }
     ensures alive { UnlessBroken (T.alive turning.new) result }
     ensures later { NoneFell (T.faults turning.old) (T.faults turning.new) }
@@ -51,7 +51,7 @@ fn tick_workers<T: Turning>(turning: &mut T, most: u64, before: u64) -> Result<u
     requires alive { T.alive turning.old }
     requires few { before ≤ most }
     ensures turns { TakesTurns (T.broken turning.new) (T.setting turning.old) all_tick most
-        before (T.cluster turning.old) (T.cluster turning.new) result }
+        before (T.ran turning.old) (T.ran turning.new) result }
     ensures setting { T.setting turning.new ≡ T.setting turning.old }
     ensures alive { UnlessBroken (T.alive turning.new) result }
     ensures later { NoneFell (T.faults turning.old) (T.faults turning.new) }
@@ -69,7 +69,7 @@ fn tick_worker<T: Turning>(turning: &mut T, most: u64, moved: u64, w: u32) -> Re
     requires alive { T.alive turning.old }
     requires few { moved ≤ most }
     ensures turns { TakesTurns (T.broken turning.new) (T.setting turning.old) (ticks_of w) most
-        moved (T.cluster turning.old) (T.cluster turning.new) result }
+        moved (T.ran turning.old) (T.ran turning.new) result }
     ensures setting { T.setting turning.new ≡ T.setting turning.old }
     ensures alive { UnlessBroken (T.alive turning.new) result }
     ensures later { NoneFell (T.faults turning.old) (T.faults turning.new) }
@@ -100,7 +100,7 @@ fn step_instances<T: Turning>(turning: &mut T, most: u64, before: u64) -> Result
     requires alive { T.alive turning.old }
     requires few { before ≤ most }
     ensures turns { TakesTurns (T.broken turning.new) (T.setting turning.old) (all_step (T.setting turning.old)) most
-        before (T.cluster turning.old) (T.cluster turning.new) result }
+        before (T.ran turning.old) (T.ran turning.new) result }
     ensures setting { T.setting turning.new ≡ T.setting turning.old }
     ensures alive { UnlessBroken (T.alive turning.new) result }
     ensures later { NoneFell (T.faults turning.old) (T.faults turning.new) }
@@ -123,7 +123,7 @@ fn step_instance<T: Turning>(
     requires alive { T.alive turning.old }
     requires few { moved ≤ most }
     ensures turns { TakesTurns (T.broken turning.new) (T.setting turning.old) (steps_of (T.setting turning.old) i) most
-        moved (T.cluster turning.old) (T.cluster turning.new) result }
+        moved (T.ran turning.old) (T.ran turning.new) result }
     ensures setting { T.setting turning.new ≡ T.setting turning.old }
     ensures alive { UnlessBroken (T.alive turning.new) result }
     ensures later { NoneFell (T.faults turning.old) (T.faults turning.new) }
@@ -164,7 +164,7 @@ fn is_move(did: &Did) -> bool
 
 /// Whether a cluster is quiet: each worker that takes part is idle, and each instance is at its end, paused or failed.
 pub(crate) fn is_quiet<T: Turning>(alloc: Global, turning: &T) -> Result<bool, AllocError>
-    ensures { IfOk result (λ quiet. quiet ≡ is_quiet (T.setting turning.now) (T.cluster turning.now)) }
+    ensures { IfOk result (λ quiet. quiet ≡ is_quiet (T.setting turning.now) (T.ran turning.now).cluster) }
 {
     if !are_idle(alloc, turning)? {
         return Ok(false);
@@ -174,8 +174,8 @@ pub(crate) fn is_quiet<T: Turning>(alloc: Global, turning: &T) -> Result<bool, A
 
 // Whether each worker that takes part is idle.
 fn are_idle<T: Turning>(alloc: Global, turning: &T) -> Result<bool, AllocError>
-    ensures { IfOk result (λ idle. idle ≡ list_all (λ w. is_idle_at w (T.cluster turning.now))
-        (range_with_len 0 (length (T.cluster turning.now).rows))) }
+    ensures { IfOk result (λ idle. idle ≡ list_all (λ w. is_idle_at w (T.ran turning.now).cluster)
+        (range_with_len 0 (length (T.ran turning.now).cluster.rows))) }
 {
     for w in 0..turning.workers() {
         let idle = turning.is_idle(alloc, w)?;
@@ -188,8 +188,8 @@ fn are_idle<T: Turning>(alloc: Global, turning: &T) -> Result<bool, AllocError>
 
 // Whether each instance rests.
 fn do_rest<T: Turning>(alloc: Global, turning: &T) -> Result<bool, AllocError>
-    ensures { IfOk result (λ rest. rest ≡ list_all (λ i. rests_at (T.setting turning.now) i (T.cluster turning.now))
-        (range_with_len 0 (length (T.cluster turning.now).instances))) }
+    ensures { IfOk result (λ rest. rest ≡ list_all (λ i. rests_at (T.setting turning.now) i (T.ran turning.now).cluster)
+        (range_with_len 0 (length (T.ran turning.now).cluster.instances))) }
 {
     for i in 0..turning.instances() {
         let rests = turning.rests(alloc, i)?;

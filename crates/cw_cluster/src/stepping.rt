@@ -1,11 +1,9 @@
 //! A step of an instance, whichever it is of.
-ghost use Rattle.std.specs.Prelude.{◌≡◌, ◌≤◌, ◌<◌, length, is_some, Err};
-ghost use Rattle.cw_types.specs.Faults.{Rose};
+ghost use Rattle.std.specs.Prelude.{◌≡◌, ◌<◌, length};
 ghost use Rattle.cw_script.specs.declared.directive.Directive.TheVariants as directive;
 ghost use Rattle.cw_model.specs.Tasks.{is_sink};
-ghost use Rattle.cw_cluster.specs.Amid.{IsAmid};
-ghost use Rattle.cw_cluster.specs.Directives.{does};
-ghost use Rattle.cw_cluster.specs.Playing.{IsPlayed, played_told};
+ghost use Rattle.cw_cluster.specs.Breaking.{IsAlive};
+ghost use Rattle.cw_cluster.specs.Playing.{IsOutletKept, PlaysDirective};
 ghost use Rattle.cw_cluster.specs.Stepping.{Steps};
 
 use crate::answers::Answers;
@@ -46,14 +44,13 @@ pub(crate) fn play_step<D: Disk, U: Outlet>(
     outlet: &mut U,
     answers: &mut Answers,
 ) -> Result<(), DriveEnd>
-    requires { i < length world.old.state.instances }
-    ensures played { IsPlayed D.Disk (played_told (does world.old.setting (directive.Step i) world.old.state))
-        (IsAmid world.old.setting (directive.Step i) world.old.state)
-        world.old world.new answers.old answers.new result }
-    ensures told { is_some (U.files outlet.new) ≡ is_some (U.files outlet.old) }
-    ensures later { U.faults outlet.old ≤ U.faults outlet.new }
-    ensures rose { result ≡ Err DriveEnd.OutletFault → Rose (U.faults outlet.old) (U.faults outlet.new) }
+    requires there { i < length world.old.state.instances }
+    requires alive { IsAlive D.Disk world.old }
+    ensures played { PlaysDirective D.Disk (directive.Step i) world.old world.new (U.files outlet.old)
+        (U.files outlet.new) answers.old answers.new result }
+    ensures outlet { IsOutletKept U.Outlet outlet.old outlet.new result }
 {
+    world.is_safe();
     match step(alloc, world, i, outlet) {
         Ok(did) => {
             let done = Ok(Outcome::Step(i, did));
@@ -65,7 +62,7 @@ pub(crate) fn play_step<D: Disk, U: Outlet>(
 }
 
 // Whether an instance is a task of a sink.
-fn is_sink(instance: &Instance) -> bool
+pub(crate) fn is_sink(instance: &Instance) -> bool
     ensures { result ≡ is_sink instance.now }
 {
     match &instance.task {

@@ -16,6 +16,6 @@ pub(crate) enum TurnFault {
         /// Its count of faults.
         count: u64,
     },
-    /// What a sink's task hands out couldn't be written. Nothing has changed.
+    /// What a sink's task hands out couldn't be written. The cluster is as it was.
     Outlet,
 }

@@ -5,5 +5,5 @@ use Rattle.cw_cluster.proofs.settling.are_idle.Given as goal
 
 abbrev pub invariant-loop-w : goal.invariant-loop-w
 invariant-loop-w g l =
-    list_all (λ w. is_idle_at w (g.T.Turning.cluster l.turning)) (range_with_len 0 (length (g.T.Turning.cluster l.turning).rows)) ≡
-    list_all (λ w. is_idle_at w (g.T.Turning.cluster l.turning)) (range_with_len l.w (length (g.T.Turning.cluster l.turning).rows - l.w))
+    list_all (λ w. is_idle_at w (g.T.Turning.ran l.turning).cluster) (range_with_len 0 (length (g.T.Turning.ran l.turning).cluster.rows)) ≡
+    list_all (λ w. is_idle_at w (g.T.Turning.ran l.turning).cluster) (range_with_len l.w (length (g.T.Turning.ran l.turning).cluster.rows - l.w))

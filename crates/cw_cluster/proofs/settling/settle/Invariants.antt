@@ -5,7 +5,7 @@ use Rattle.cw_cluster.proofs.settling.settle.Given as goal
 
 abbrev pub invariant-rounds : goal.invariant-rounds
 invariant-rounds g l = record {
-  far : SettlesTo (g.T.Turning.setting l.fn.turning) l.most (g.T.Turning.cluster l.fn.turning) l.moved (g.T.Turning.cluster l.turning);
+  far : SettlesTo (g.T.Turning.setting l.fn.turning) l.most (g.T.Turning.ran l.fn.turning) l.moved (g.T.Turning.ran l.turning);
   setting : g.T.Turning.setting l.turning ≡ g.T.Turning.setting l.fn.turning;
   alive : g.T.Turning.alive l.turning;
   later : NoneFell (g.T.Turning.faults l.fn.turning) (g.T.Turning.faults l.turning);

@@ -11,11 +11,11 @@ use Rattle.cw_cluster.proofs.settling.step_instances.Goals as goal
 pub returns-in_err-moved-clause-turns : goal.returns-in_err-moved-clause-turns
 returns-in_err-moved-clause-turns g c =
     let p = err_from_is_err_and c.from_residual.result c.from_residual.ensures.1 in
-    let s = g.T.Turning.cluster c.args.turning.now in
-    let u = g.T.Turning.cluster c.loop-i.turning in
-    let t = g.T.Turning.cluster c.step_instance.new.turning in
+    let s = g.T.Turning.ran c.args.turning.now in
+    let u = g.T.Turning.ran c.loop-i.turning in
+    let t = g.T.Turning.ran c.step_instance.new.turning in
     let setting = g.T.Turning.setting c.args.turning.now in
-    let n = length s.instances in
+    let n = length s.cluster.instances in
     let i = c.loop-i.i in
     let below : i < n = omega (arith, c.instances-i-end.ensures) in
     rw (p.1, p.2)
@@ -26,11 +26,11 @@ returns-in_err-moved-clause-turns g c =
 
 pub loop-i-preserved : goal.loop-i-preserved
 loop-i-preserved g c =
-    let s = g.T.Turning.cluster c.args.turning.now in
-    let u = g.T.Turning.cluster c.loop-i.turning in
-    let t = g.T.Turning.cluster c.step_instance.new.turning in
+    let s = g.T.Turning.ran c.args.turning.now in
+    let u = g.T.Turning.ran c.loop-i.turning in
+    let t = g.T.Turning.ran c.step_instance.new.turning in
     let setting = g.T.Turning.setting c.args.turning.now in
-    let n = length s.instances in
+    let n = length s.cluster.instances in
     let below : c.loop-i.i < n = omega (arith, c.instances-i-end.ensures) in
     record {
       far = each-next (steps setting) (all_step setting) n c.loop-i.i c.args.most c.args.before s c.loop-i.moved u c.loop-i.invariant.far below c.in_ok-moved.moved t

@@ -9,18 +9,18 @@ use Rattle.cw_cluster.proofs.settling.take_round.Goals as goal
 pub returns-in_err-ticked-clause-turns : goal.returns-in_err-ticked-clause-turns
 returns-in_err-ticked-clause-turns g c =
     let p = err_from_is_err_and c.from_residual.result c.from_residual.ensures.1 in
-    let s = g.T.Turning.cluster c.args.turning.now in
+    let s = g.T.Turning.ran c.args.turning.now in
     let setting = g.T.Turning.setting c.args.turning.now in
     rw (p.1, p.2)
     (stops-then (round setting) (round setting) all_tick (all_step setting) c.args.most c.args.moved s c.args.moved s (leads-none (round setting) c.args.most c.args.moved s c.requires.few)
-    (λ k low high. refl) (g.T.Turning.broken c.tick_workers.new.turning) setting (g.T.Turning.cluster c.tick_workers.new.turning) c.in_err-ticked.field-0.0 (idle-all_step setting)
+    (λ k low high. refl) (g.T.Turning.broken c.tick_workers.new.turning) setting (g.T.Turning.ran c.tick_workers.new.turning) c.in_err-ticked.field-0.0 (idle-all_step setting)
     c.in_err-ticked.ensures.turns)
 
 pub returns-clause-turns : goal.returns-clause-turns
 returns-clause-turns g c =
-    let s = g.T.Turning.cluster c.args.turning.now in
-    let u = g.T.Turning.cluster c.tick_workers.new.turning in
-    let t = g.T.Turning.cluster c.step_instances.new.turning in
+    let s = g.T.Turning.ran c.args.turning.now in
+    let u = g.T.Turning.ran c.tick_workers.new.turning in
+    let t = g.T.Turning.ran c.step_instances.new.turning in
     let setting = g.T.Turning.setting c.args.turning.now in
     takes-then (round setting) (all_step setting) (all_step setting) none_left c.args.most c.args.moved s c.in_ok-ticked.ticked u
     (leads-behind setting c.args.most c.args.moved s c.in_ok-ticked.ticked u c.requires.few c.in_ok-ticked.ensures.turns)

@@ -7,8 +7,8 @@ use Rattle.cw_cluster.proofs.settling.tick_workers.Given as goal
 
 abbrev pub invariant-loop-w : goal.invariant-loop-w
 invariant-loop-w g l = record {
-  far : LeadsTo all_tick (tick_each (range_with_len l.w (length (g.T.Turning.cluster l.fn.turning).rows - l.w))) l.most l.fn.before (g.T.Turning.cluster l.fn.turning)
-      l.moved (g.T.Turning.cluster l.turning);
+  far : LeadsTo all_tick (tick_each (range_with_len l.w (length (g.T.Turning.ran l.fn.turning).cluster.rows - l.w))) l.most l.fn.before (g.T.Turning.ran l.fn.turning)
+      l.moved (g.T.Turning.ran l.turning);
   setting : g.T.Turning.setting l.turning ≡ g.T.Turning.setting l.fn.turning;
   alive : g.T.Turning.alive l.turning;
   later : NoneFell (g.T.Turning.faults l.fn.turning) (g.T.Turning.faults l.turning);
