@@ -1,15 +1,4 @@
-pub mod Store
-pub mod Events
-pub mod Harms
-pub mod Reading
-pub mod Cuts
 pub mod Statuses
-pub mod Players
-pub mod Lines
-pub mod Plays
-pub mod Due
-pub mod Answers
-pub mod Run
-pub mod Sessions
+pub mod Opening
 pub mod Outcomes
-pub mod Drives
+pub mod Making

@@ -1,97 +1,85 @@
--- How a run of `drive` ended, over the bytes that it read: all answers where nothing failed, else those before the
--- failure, and what a stop leaves of its disk. This project's own rule.
-use Rattle.std.specs.Prelude.{◌≡◌, ◌⊎◌, ℕ, Bool, false, List, [], ◌∷◌, codes, Some, is_some, true}
-use Rattle.std.specs.Str.{bytes_eq}
-use Rattle.cw_disk.specs.declared.disks.Disks.{Disks}
+-- How a run of the command `drive` ended: nothing was opened, and why; or a cluster was opened, and what was read,
+-- written and left is due over it. This project's own rule.
+use Rattle.std.specs.Prelude.{◌≡◌, ◌⊎◌, ℕ}
 use Rattle.cw_disk.specs.declared.device.Disk.{Ghosts}
-use Rattle.cw_disk.specs.Told.{Adds}
+use Rattle.cw_disk.specs.declared.disks.Disks.{Disks}
+use Rattle.cw_io.specs.declared.outlet.Outlet as outlet
+use Rattle.cw_io.specs.declared.shelf.Shelf as shelf
 use Rattle.cw_io.specs.declared.traits.Source.{Ghosts as Input}
 use Rattle.cw_io.specs.declared.traits.Sink.{Ghosts as Output}
-use Rattle.cw_log.specs.Log.{StandAlike}
+use Rattle.cw_lines.specs.Due.{DrivesOver}
+use Rattle.cw_lines.specs.Players.{player_of}
+use Rattle.cw_lines.specs.declared.end.DriveEnd.{DriveEnd}
 use Rattle.cw_log.specs.declared.fault.Harm.{Harm}
-use Rattle.cw_types.specs.declared.logs.DiskName.TheVariants.{Txn}
+use Rattle.cw_model.specs.State.{Setting}
+use Rattle.cw_open.specs.OpenedFrom.{DisksStay}
+use Rattle.cw_types.specs.declared.logs.DiskName.{DiskName}
+use Rattle.cw_words.specs.declared.command.Options.{Options}
+use Rattle.cw_cluster.specs.Driven.{IsLeft, IsLeftBroken}
+use Rattle.cw_cluster.specs.Ran.{Ran}
+use Rattle.cw_cluster.specs.Rules.{drive_rules}
+use Rattle.connect.specs.Opening.{IsSetFor, IsOpenedFrom}
+use Rattle.connect.specs.Statuses.{status_of_end}
 use Rattle.connect.specs.declared.status.Status.{Status}
 use Rattle.connect.specs.declared.status.Status.TheVariants.{Done, Usage, BadScript, TooLong, ReadFault, WriteFault}
-use Rattle.connect.specs.declared.status.Status.TheVariants.{StoreFault, Damaged, Full, Memory}
-use Rattle.connect.specs.Due.{DrivesOver}
-use Rattle.connect.specs.Plays.{behind_lines}
-use Rattle.connect.specs.Run.{play_line}
-use Rattle.connect.specs.Sessions.{IsBehind}
-use Rattle.connect.specs.Store.{Store, IsImage, IsSafe}
+use Rattle.connect.specs.declared.status.Status.TheVariants.{StoreFault, Damaged, ShelfFault, OutletFault, Full, Memory}
 
--- whether the words are the command
-abbrev pub is_drive : List (List ℕ) → Bool
-is_drive [] = false
-is_drive (word ∷ []) = bytes_eq word (codes "drive")
-is_drive (word ∷ next ∷ words) = false
+-- what was left of the disks where the run ended before a cluster was opened: where the shelf failed they weren't
+-- touched, and else a stop leaves of each what it might have left before, or a file of the same list
+abbrev pub Leaves : {D : Type 0} → Ghosts D → Status → (old new : Disks D) → Type 0
+Leaves G ShelfFault old new = new ≡ old
+Leaves G (Damaged disk at harm) old new = DisksStay G old new
+Leaves G (StoreFault disk count) old new = DisksStay G old new
+Leaves G Memory old new = (new ≡ old) ⊎ DisksStay G old new
+Leaves G Done old new = ⊥
+Leaves G Usage old new = ⊥
+Leaves G (BadScript line kind) old new = ⊥
+Leaves G (TooLong count) old new = ⊥
+Leaves G ReadFault old new = ⊥
+Leaves G WriteFault old new = ⊥
+Leaves G OutletFault old new = ⊥
+Leaves G (Full log length frame) old new = ⊥
 
--- each image that a stop may leave stands for this store
-abbrev pub Stand : (List ℕ → Type 0) → Store → Type 0
-Stand images store = (image : List ℕ) → images image → IsImage store image
+-- no cluster was opened: nothing was read, written or handed out
+pub record IsNotOpened {D : Type 0} (G : Ghosts D) (status : Status) (untouched : Type 0) (old new : Disks D) : Type 0
+  where
+    pub nothing : untouched
+    pub left : Leaves G status old new
 
--- each for the one store or the other
-abbrev pub StandEither : (List ℕ → Type 0) → (a b : Store) → Type 0
-StandEither images a b = (image : List ℕ) → images image → IsImage a image ⊎ IsImage b image
-
--- a run ended in the opening of the transactions
-abbrev pub IsRefusal : Status → Type 0
-IsRefusal (Damaged disk at harm) = disk ≡ Txn
-IsRefusal (StoreFault disk count) = disk ≡ Txn
-IsRefusal Memory = Unit {0}
-IsRefusal Done = ⊥
-IsRefusal Usage = ⊥
-IsRefusal (BadScript line kind) = ⊥
-IsRefusal (TooLong count) = ⊥
-IsRefusal ReadFault = ⊥
-IsRefusal WriteFault = ⊥
-IsRefusal (Full log length frame) = ⊥
-
--- a file with this harm was refused for it, where neither the disk failed nor memory was wanting
-abbrev pub IsRefusedFor : ℕ → Harm → Status → Type 0
-IsRefusedFor at harm (Damaged disk place what) = (disk ≡ Txn) × (place ≡ at) × (what ≡ harm)
-IsRefusedFor at harm (StoreFault disk count) = disk ≡ Txn
-IsRefusedFor at harm Memory = Unit {0}
-IsRefusedFor at harm Done = ⊥
-IsRefusedFor at harm Usage = ⊥
-IsRefusedFor at harm (BadScript line kind) = ⊥
-IsRefusedFor at harm (TooLong count) = ⊥
-IsRefusedFor at harm ReadFault = ⊥
-IsRefusedFor at harm WriteFault = ⊥
-IsRefusedFor at harm (Full log length frame) = ⊥
-
--- the transactions were not opened: nothing was read or written, and a stop at any moment left a file that stands alike
-pub record IsNotOpened {D : Type 0} (d : Ghosts D) (status : Status) (untouched : Type 0) (old new : D) : Type 0 where
-  pub because : IsRefusal status
-  pub nothing : untouched
-  pub any_moment : (file : List ℕ) → d.holds old ≡ Some file → Adds d old new (StandAlike 4 file)
-
--- they were opened, as a safe store for which the file stands: what was read, written and left is due over this store,
--- and a stop at any moment left a file that stands alike, or stands for the store behind some lines
-pub record IsOpened {D I O : Type 0} (d : Ghosts D) (i : Input I) (o : Output O) (status : Status)
-    (in_old in_new : I) (out_old out_new : O) (old new : D) : Type 0 where
-  pub store : Store
-  pub safe : IsSafe store.entries
-  pub image : (file : List ℕ) → d.holds old ≡ Some file → IsImage store file
-  pub drives : DrivesOver i o play_line status store in_old in_new out_old out_new
-      (λ behind. is_some (d.holds old) ≡ true → Stand (d.may_leave new) behind)
-      (λ a b. is_some (d.holds old) ≡ true → StandEither (d.may_leave new) a b)
-  pub any_moment : (file : List ℕ) → d.holds old ≡ Some file → (bytes : List ℕ) → i.left in_old ≡ Some bytes →
-      Adds d old new
-      (λ image. StandAlike 4 file image ⊎ IsBehind (λ k. behind_lines play_line k bytes store) image)
+-- A cluster was opened from the disks and the shelf, and the script was driven over it: what was read and written is
+-- due, and the disks hold what stands in the state that is left, whatever a stop leaves of them.
+pub record IsDriven {D I O H U : Type 0} (G : Ghosts D) (i : Input I) (o : Output O) (S : shelf.Ghosts H)
+    (u : outlet.Ghosts U) (options : Options) (status : Status) (on : H) (in_old in_new : I) (out_old out_new : O)
+    (old new : Disks D) (outlet_old outlet_new : U) : Type 0 where
+  pub setting : Setting
+  pub ran : Ran
+  pub set : IsSetFor S options on setting
+  pub from : IsOpenedFrom G old setting ran.cluster ran.tells
+  pub files : ran.files ≡ u.files outlet_old
+  pub end : DriveEnd
+  pub status_is : status ≡ status_of_end end
+  pub drives : DrivesOver i o (player_of drive_rules setting) (drive_rules.amid setting) end ran in_old in_new
+      out_old out_new (IsLeft G u new outlet_new) (IsLeftBroken G u setting new outlet_new)
 
 -- either way
-abbrev pub IsRun : {D I O : Type 0} → Ghosts D → Input I → Output O → Status → (in_old in_new : I) →
-    (out_old out_new : O) → (old new : D) → Type 0
-IsRun d i o status in_old in_new out_old out_new old new =
-    IsNotOpened d status ((in_new ≡ in_old) × (out_new ≡ out_old)) old new
-    ⊎ IsOpened d i o status in_old in_new out_old out_new old new
+abbrev pub IsRun : {D I O H U : Type 0} → Ghosts D → Input I → Output O → shelf.Ghosts H → outlet.Ghosts U → Options →
+    Status → (on : H) → (in_old in_new : I) → (out_old out_new : O) → (old new : Disks D) →
+    (outlet_old outlet_new : U) → Type 0
+IsRun G i o S u options status on in_old in_new out_old out_new old new outlet_old outlet_new =
+    IsNotOpened G status ((in_new ≡ in_old) × (out_new ≡ out_old) × (outlet_new ≡ outlet_old)) old new
+    ⊎ IsDriven G i o S u options status on in_old in_new out_old out_new old new outlet_old outlet_new
 
--- the seven other disks came back as they were
-pub record IsSameButTxn {D : Type 0} (old new : Disks D) : Type 0 where
-  pub config_a : new.config_a ≡ old.config_a
-  pub config_b : new.config_b ≡ old.config_b
-  pub offsets_a : new.offsets_a ≡ old.offsets_a
-  pub offsets_b : new.offsets_b ≡ old.offsets_b
-  pub status_a : new.status_a ≡ old.status_a
-  pub status_b : new.status_b ≡ old.status_b
-  pub batches : new.batches ≡ old.batches
+-- files whose first harm is this one are refused for it, unless an object failed or memory was wanting before
+abbrev pub IsRefusedFor : (at : DiskName) → (place : ℕ) → (harm : Harm) → Status → Type 0
+IsRefusedFor at place harm (Damaged disk gate what) = (disk ≡ at) × (gate ≡ place) × (what ≡ harm)
+IsRefusedFor at place harm (StoreFault disk count) = Unit {0}
+IsRefusedFor at place harm ShelfFault = Unit {0}
+IsRefusedFor at place harm Memory = Unit {0}
+IsRefusedFor at place harm Done = ⊥
+IsRefusedFor at place harm Usage = ⊥
+IsRefusedFor at place harm (BadScript line kind) = ⊥
+IsRefusedFor at place harm (TooLong count) = ⊥
+IsRefusedFor at place harm ReadFault = ⊥
+IsRefusedFor at place harm WriteFault = ⊥
+IsRefusedFor at place harm OutletFault = ⊥
+IsRefusedFor at place harm (Full log length frame) = ⊥

@@ -1,14 +1,17 @@
 -- The numbers that the program exits with, and the line that it prints for each. This project's own.
-use Rattle.std.specs.Prelude.{ℕ, List, [], ◌∷◌, ◌++◌, codes, decimal, Bool, true, false}
+use Rattle.std.specs.Prelude.{ℕ, List, [], ◌∷◌, ◌++◌, codes, decimal}
+use Rattle.cw_io.specs.declared.shelf.ShelfFault.{ShelfFault as OfShelf}
+use Rattle.cw_io.specs.declared.shelf.ShelfFault.TheVariants as shelf
+use Rattle.cw_lines.specs.declared.end.DriveEnd.{DriveEnd}
+use Rattle.cw_lines.specs.declared.end.DriveEnd.TheVariants as end
+use Rattle.cw_open.specs.declared.reopen_fault.ReopenCause.{ReopenCause}
+use Rattle.cw_open.specs.declared.reopen_fault.ReopenCause.TheVariants as cause
 use Rattle.cw_script.specs.Faults.{kind_text}
-use Rattle.cw_types.specs.declared.logs.DiskName.TheVariants.{Txn}
-use Rattle.cw_types.specs.declared.logs.LogName.TheVariants.{Txn as TxnLog}
-use Rattle.connect.specs.declared.opening.OpeningCause.{OpeningCause}
-use Rattle.connect.specs.declared.opening.OpeningCause.TheVariants as causes
-use Rattle.connect.specs.declared.transactions.EventFault.{EventFault}
-use Rattle.connect.specs.declared.transactions.EventFault.TheVariants as faults
+use Rattle.cw_words.specs.declared.command.WordsFault.{WordsFault}
+use Rattle.cw_words.specs.declared.command.WordsFault.TheVariants as words
 use Rattle.connect.specs.declared.status.Status.{Status}
-use Rattle.connect.specs.declared.status.Status.TheVariants.{Done, Usage, BadScript, TooLong, ReadFault, WriteFault, StoreFault, Damaged, Full, Memory}
+use Rattle.connect.specs.declared.status.Status.TheVariants.{Done, Usage, BadScript, TooLong, ReadFault, WriteFault}
+use Rattle.connect.specs.declared.status.Status.TheVariants.{StoreFault, Damaged, ShelfFault, OutletFault, Full, Memory}
 
 -- the exit status
 abbrev pub status_number : Status → ℕ
@@ -20,6 +23,8 @@ status_number ReadFault = 3
 status_number WriteFault = 4
 status_number (StoreFault disk count) = 5
 status_number (Damaged disk at harm) = 6
+status_number ShelfFault = 7
+status_number OutletFault = 8
 status_number (Full log length frame) = 10
 status_number Memory = 11
 
@@ -33,6 +38,8 @@ status_text ReadFault = codes "status 3 ReadFault"
 status_text WriteFault = codes "status 4 WriteFault"
 status_text (StoreFault disk count) = codes "status 5 StoreFault"
 status_text (Damaged disk at harm) = codes "status 6 Damaged"
+status_text ShelfFault = codes "status 7 ShelfFault"
+status_text OutletFault = codes "status 8 OutletFault"
 status_text (Full log length frame) = codes "status 10 Full"
 status_text Memory = codes "status 11 Memory"
 
@@ -41,27 +48,32 @@ abbrev pub status_line : Status → List ℕ
 status_line Done = []
 status_line status = status_text status ++ 10 ∷ []
 
--- whether a script ends so by what one of its lines says
-abbrev pub is_own : Status → Bool
-is_own Done = false
-is_own Usage = false
-is_own (BadScript line kind) = true
-is_own (TooLong count) = true
-is_own ReadFault = false
-is_own WriteFault = false
-is_own (StoreFault disk count) = false
-is_own (Damaged disk at harm) = false
-is_own (Full log length frame) = true
-is_own Memory = false
+-- ---- whose fault it was
 
--- how a script ends where an event of the transactions did not happen
-abbrev pub status_of_event : EventFault → Status
-status_of_event (faults.StoreFault count) = StoreFault Txn count
-status_of_event (faults.Full length frame) = Full TxnLog length frame
-status_of_event faults.Memory = Memory
+-- words that are no command
+abbrev pub status_of_words : WordsFault → Status
+status_of_words words.Usage = Usage
+status_of_words words.Memory = Memory
 
--- how a run ends whose transactions were not opened
-abbrev pub status_of_opening : OpeningCause → Status
-status_of_opening (causes.Damaged at harm) = Damaged Txn at harm
-status_of_opening (causes.StoreFault count) = StoreFault Txn count
-status_of_opening causes.Memory = Memory
+-- feeds that couldn't be loaded
+abbrev pub status_of_shelf : OfShelf → Status
+status_of_shelf shelf.Failed = ShelfFault
+status_of_shelf shelf.Memory = Memory
+
+-- disks that weren't opened
+abbrev pub status_of_cause : ReopenCause → Status
+status_of_cause (cause.Damaged disk at harm) = Damaged disk at harm
+status_of_cause (cause.StoreFault disk count) = StoreFault disk count
+status_of_cause cause.Memory = Memory
+
+-- a script that ended
+abbrev pub status_of_end : DriveEnd → Status
+status_of_end end.Done = Done
+status_of_end (end.BadScript line kind) = BadScript line kind
+status_of_end (end.TooLong count) = TooLong count
+status_of_end end.ReadFault = ReadFault
+status_of_end end.WriteFault = WriteFault
+status_of_end (end.StoreFault disk count) = StoreFault disk count
+status_of_end end.OutletFault = OutletFault
+status_of_end (end.Full log length frame) = Full log length frame
+status_of_end end.Memory = Memory

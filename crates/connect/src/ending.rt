@@ -1,9 +1,9 @@
 //! How the process ends: the number that it exits with, and the line on the standard error.
 ghost use Rattle.std.specs.Prelude.{◌≡◌, ◌≢◌, OnOk, OnErr};
 ghost use Rattle.std.specs.declared.io.ErrorKind.TheVariants.{OutOfMemory};
+ghost use Rattle.cw_io.specs.Told.{with_back};
 ghost use Rattle.cw_types.specs.Faults.{Rose};
 ghost use Rattle.connect.specs.declared.status.Status.TheVariants.{BadScript, Usage, Memory};
-ghost use Rattle.connect.specs.Drives.{Writes};
 ghost use Rattle.connect.specs.Statuses.{status_line, status_number};
 
 use crate::status::Status;
@@ -16,7 +16,7 @@ use std::io::ErrorKind;
 pub fn exit_number<E: Sink>(status: &Status, errors: &mut E) -> u8
     ensures number { result ≡ status_number status.now }
     ensures line { ¬ Rose (E.faults errors.old) (E.faults errors.new) →
-        Writes (status_line status.now) (E.held errors.old) (E.held errors.new) }
+        E.held errors.new ≡ with_back (status_line status.now) (E.held errors.old) }
 {
     let _ = tell(status, errors);
     status.number()
@@ -35,7 +35,7 @@ pub fn status_of_fault(kind: ErrorKind) -> Status
 
 // Writes the line of a status.
 fn tell<E: Sink>(status: &Status, errors: &mut E) -> Result<(), Failed>
-    ensures whole { OnOk result (Writes (status_line status.now) (E.held errors.old) (E.held errors.new)) }
+    ensures whole { OnOk result (E.held errors.new ≡ with_back (status_line status.now) (E.held errors.old)) }
     ensures rose { OnErr result (Rose (E.faults errors.old) (E.faults errors.new)) }
 {
     match status {
@@ -47,6 +47,8 @@ fn tell<E: Sink>(status: &Status, errors: &mut E) -> Result<(), Failed>
         Status::WriteFault => write_all(errors, b"status 4 WriteFault\n"),
         Status::StoreFault { .. } => write_all(errors, b"status 5 StoreFault\n"),
         Status::Damaged { .. } => write_all(errors, b"status 6 Damaged\n"),
+        Status::ShelfFault => write_all(errors, b"status 7 ShelfFault\n"),
+        Status::OutletFault => write_all(errors, b"status 8 OutletFault\n"),
         Status::Full { .. } => write_all(errors, b"status 10 Full\n"),
         Status::Memory => write_all(errors, b"status 11 Memory\n"),
     }
@@ -54,7 +56,7 @@ fn tell<E: Sink>(status: &Status, errors: &mut E) -> Result<(), Failed>
 
 // Writes the line of a script's fault.
 fn tell_bad_script<E: Sink>(line: u64, kind: LineKind, errors: &mut E) -> Result<(), Failed>
-    ensures whole { OnOk result (Writes (status_line (BadScript line kind)) (E.held errors.old) (E.held errors.new)) }
+    ensures whole { OnOk result (E.held errors.new ≡ with_back (status_line (BadScript line kind)) (E.held errors.old)) }
     ensures rose { OnErr result (Rose (E.faults errors.old) (E.faults errors.new)) }
 {
     let mut digits = itoa::Buffer::new();

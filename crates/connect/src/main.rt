@@ -1,29 +1,22 @@
 //! `connect`: Kafka Connect's distributed mode over logs on files.
 //!
-//! The public call `connect` carries the theorem of the whole program: over the transactions for which its
-//! disk stands and the lines that it reads, its output is their answers, what a stop at any moment leaves
-//! stands for the transactions behind some of these lines, and a damaged file is refused at its first harm.
-//! It stands on cw_script, cw_txn, cw_log, cw_disk and cw_io; `main` makes the adapters and exits with the
-//! status's number.
+//! The public call `connect` carries the theorem of the whole program: over the cluster for which its disks stand and
+//! the lines that it reads, its output is their answers, every state on the way is safe, what a stop leaves of the
+//! disks stands for the state that is left, or where a disk failed for that before or behind the event in flight, and
+//! damaged files are refused at their first harm.
+//! It stands on cw_words, cw_feed, cw_open and cw_cluster; `main` makes the adapters and exits with the status's number.
 #![tactic(auto)]
 
-mod answer;
-mod drive;
 mod ending;
-mod lines;
 mod opening;
-mod player;
-mod reading;
-mod session;
+mod safety;
 mod status;
 #[cfg(test)]
 mod tests;
 mod top;
-mod transactions;
 
-pub use answer::{Answer, Committing};
 use cw_disk::Disks;
-use cw_io::{ReaderSource, WriterSink};
+use cw_io::{FolderOutlet, FolderShelf, ReaderSource, WriterSink};
 pub use ending::{exit_number, status_of_fault};
 pub use status::Status;
 use std::env::Env;
@@ -39,8 +32,19 @@ fn main(rt: HostRuntime) -> ExitCode {
         Ok(words) => {
             let mut input = ReaderSource::new(rt.reader());
             let mut output = WriterSink::new(io::writer(&rt));
+            let mut shelf = FolderShelf::new(&rt, "feeds");
+            let outlet = FolderOutlet::new(&rt, "out");
             let disks = Disks::in_folder(&rt);
-            connect(&rt, &words, disks, &mut input, &mut output).status
+            connect(
+                &rt,
+                &words,
+                disks,
+                &mut input,
+                &mut output,
+                &mut shelf,
+                outlet,
+            )
+            .status
         }
         Err(status) => status,
     };

@@ -1,106 +1,115 @@
-//! Opening the transaction log: its list is read in one pass, and the coordinator is made of it.
-ghost use Rattle.std.specs.Prelude.{◌≡◌, ◌≤◌, ◌<◌, ◌⊎◌, List, ℕ, Some, None, false, is_some, IfOk, IfErr, MatchResult};
-ghost use Rattle.cw_disk.specs.Told.{Adds, Told};
+//! Opening a cluster for a script: its feeds are loaded, and then its disks are opened.
+ghost use Rattle.std.specs.Prelude.{◌≡◌, ◌≤◌, ℕ, IfOk, IfErr, MatchResult};
+ghost use Rattle.std.specs.List.{AllByRecursion};
 ghost use Rattle.cw_log.specs.declared.fault.Harm.{Harm};
-ghost use Rattle.cw_log.specs.Log.{OpensAs, StandAlike};
-ghost use Rattle.connect.specs.Store.{Store, IsImage, IsSafe, store_of};
-ghost use Rattle.connect.specs.Harms.{IsHarmed, IsRefusedAs};
-ghost use Rattle.connect.specs.Reading.{IsCauseOf};
+ghost use Rattle.cw_open.specs.Judged.{HasFirstHarm, IsWhyNot};
+ghost use Rattle.cw_open.specs.Opened.{IsSetBy};
+ghost use Rattle.cw_open.specs.OpenedFrom.{AreFrom, DisksStay};
+ghost use Rattle.cw_open.specs.Reopened.{DiskFiles, FailedAt, NoneFell, TellAll};
+ghost use Rattle.cw_types.specs.Faults.{Rose};
+ghost use Rattle.cw_types.specs.Name.{IsName};
+ghost use Rattle.cw_types.specs.declared.logs.DiskName.{DiskName};
+ghost use Rattle.cw_world.specs.Ending.{disks_of};
+ghost use Rattle.cw_cluster.specs.Breaking.{IsAlive, tell_all};
+ghost use Rattle.cw_cluster.specs.Reaches.{HaveNames};
+ghost use Rattle.connect.specs.declared.status.Status.TheVariants.{StoreFault, Damaged, ShelfFault};
+ghost use Rattle.connect.specs.Opening.{IsSetFor, IsOpenedFrom};
+ghost use Rattle.connect.specs.Outcomes.{Leaves};
 
-use crate::reading::Reading;
-use crate::transactions::{MOST_LOG, Transactions};
-use cw_disk::Disk;
-use cw_log::{Harm, OpenCause, TopicLog};
-use cw_types::LogName;
+use crate::status::Status;
+use cw_disk::{Disk, Disks};
+use cw_feed::Feeds;
+use cw_io::Shelf;
+use cw_open::{ReopenFault, reopen};
+use cw_types::Name;
+use cw_words::Options;
+use cw_world::World;
 use std::alloc::Global;
 
-/// Why a disk was not opened as the transaction log.
-#[derive(Clone, Copy, Debug, Drop)]
-pub(crate) enum OpeningCause {
-    /// The first harm of its file, and the place of the gate that it is about.
-    Damaged {
-        /// The place of the gate.
-        at: u64,
-        /// What is wrong.
-        harm: Harm,
-    },
-    /// The disk failed, and this is its count of faults.
-    StoreFault(u64),
-    /// Want of memory.
-    Memory,
-}
-
-/// A disk that was not opened as the transaction log, and why.
+/// The disks of a cluster that was not opened, and how the run ends by it.
 #[derive(Drop)]
-pub(crate) struct OpeningFault<D> {
-    /// The disk that was handed in.
-    pub(crate) disk: D,
-    /// Why it was not opened.
-    pub(crate) cause: OpeningCause,
+pub(crate) struct Refusal<D> {
+    /// The disks that were handed in.
+    pub(crate) disks: Disks<D>,
+    /// How the run ends.
+    pub(crate) status: Status,
 }
 
-/// Opens a disk as the transaction log, whatever its file holds: a new log where the file is unmade. Damaged
-/// comes exactly where the file has a harm, its first one; with each `Err` the disk comes back.
-pub(crate) fn open_transactions<D: Disk>(
+/// Opens the cluster that the words ask for. The feeds are loaded first; where that fails the disks aren't touched.
+pub(crate) fn open_cluster<D: Disk, H: Shelf>(
     alloc: Global,
-    disk: D,
-) -> Result<Transactions<D>, OpeningFault<D>>
-    ensures alive { IfOk result (λ kept. (kept.log.shut ≡ false) × (kept.log.failed ≡ None)) }
-    ensures safe { IfOk result (λ kept. IsSafe kept.entries) }
-    ensures told { IfOk result (λ kept. is_some kept.log.bodies ≡ is_some (D.holds disk)) }
+    options: Options,
+    disks: Disks<D>,
+    shelf: &mut H,
+) -> Result<World<D>, Refusal<D>>
+    ensures alive { IfOk result (IsAlive D.Disk) }
+    ensures set { IfOk result (λ world. IsSetFor H.Shelf options shelf.old world.setting) }
+    ensures from { IfOk result (λ world.
+        IsOpenedFrom D.Disk disks world.setting world.state (tell_all D.Disk world.logs)) }
+    ensures logs { IfOk result (λ world. AreFrom D.Disk disks world.logs) }
+    ensures left { IfErr result (λ refusal. Leaves D.Disk refusal.status disks refusal.disks) }
 
-    // The file stands for these transactions, and so does whatever a stop may leave.
-    ensures image { IfOk result (λ kept. (file : List ℕ) → D.holds disk ≡ Some file → IsImage (store_of kept) file) }
-    ensures rest { IfOk result (λ kept. (file : List ℕ) → D.holds disk ≡ Some file →
-        (image : List ℕ) → D.may_leave kept.log.disk image → IsImage (store_of kept) image) }
-
-    // A new log where the file was unmade, else the file up to its first closed gate.
-    ensures bytes { IfOk result (λ kept. Told D.Disk disk (λ file.
-        OpensAs 4 kept.log.number file (D.holds kept.log.disk))) }
-
-    ensures cause { IfErr result (λ fault. IsRefusedAs D.Disk disk fault.disk fault.cause) }
-    ensures left { (file : List ℕ) → D.holds disk ≡ Some file → IfErr result (λ fault. (image : List ℕ) →
-        D.may_leave fault.disk image → D.may_leave disk image ⊎ StandAlike 4 file image) }
-
-    // A stop at any moment of the call leaves a file that stands for the same list.
-    ensures any_moment { (file : List ℕ) → D.holds disk ≡ Some file → MatchResult result
-        (λ kept. Adds D.Disk disk kept.log.disk (StandAlike 4 file))
-        (λ fault. Adds D.Disk disk fault.disk (StandAlike 4 file)) }
-    ensures later { MatchResult result
-        (λ kept. D.count disk ≤ D.count kept.log.disk) (λ fault. D.count disk ≤ D.count fault.disk) }
+    // Why it was not opened.
+    ensures shelf { IfErr result (λ refusal. refusal.status ≡ ShelfFault →
+        Rose (H.faults shelf.old) (H.faults shelf.new)) }
+    ensures store { IfErr result (λ refusal. (disk : DiskName) (count : ℕ) → refusal.status ≡ StoreFault disk count →
+        FailedAt D.count disks refusal.disks disk count) }
+    ensures damaged { IfErr result (λ refusal. (disk : DiskName) (at : ℕ) (harm : Harm) →
+        refusal.status ≡ Damaged disk at harm → (files : DiskFiles) → TellAll D.Disk disks files →
+        HasFirstHarm files disk at harm) }
+    ensures later_shelf { H.faults shelf.old ≤ H.faults shelf.new }
+    ensures later_disks { MatchResult result (λ world. NoneFell D.Disk disks (disks_of world.logs))
+        (λ refusal. NoneFell D.Disk disks refusal.disks) }
 {
-    let mut reading = Reading::new(alloc);
-    match TopicLog::open_with(alloc, disk, LogName::Txn, MOST_LOG, &mut reading) {
-        Ok(log) => match reading.into_coordinator() {
-            Ok(coordinator) => {
-                log.rest();
-                Ok(Transactions::of(alloc, log, coordinator))
-            }
-            Err(cause) => Err(refused(log.give_back(), cause)),
+    match Feeds::load(alloc, shelf) {
+        Ok(feeds) => match open_disks(alloc, options, disks, feeds) {
+            Ok(world) => Ok(world),
+            Err(fault) => Err(Refusal {
+                disks: fault.disks,
+                status: Status::of_cause(fault.cause),
+            }),
         },
-        Err(fault) => Err(refused(fault.disk, fault.cause)),
+        Err(fault) => Err(Refusal {
+            disks,
+            status: Status::of_shelf(fault),
+        }),
     }
 }
 
-// A disk that was not opened.
-fn refused<D: Disk>(disk: D, cause: OpenCause) -> OpeningFault<D>
-    ensures disk { result.disk ≡ disk }
-    ensures cause { IsCauseOf (D.count disk) cause result.cause }
+// Opens the disks, with these feeds.
+fn open_disks<D: Disk>(
+    alloc: Global,
+    options: Options,
+    disks: Disks<D>,
+    feeds: Feeds,
+) -> Result<World<D>, ReopenFault<D>>
+    ensures alive { IfOk result (IsAlive D.Disk) }
+    ensures set { IfOk result (λ world. IsSetBy options.group options.delay feeds world.setting) }
+    ensures names { IfOk result (λ world. HaveNames world.setting) }
+    ensures from { IfOk result (λ world.
+        IsOpenedFrom D.Disk disks world.setting world.state (tell_all D.Disk world.logs)) }
+    ensures logs { IfOk result (λ world. AreFrom D.Disk disks world.logs) }
+    ensures cause { IfErr result (IsWhyNot D.Disk disks) }
+    ensures left { IfErr result (λ fault. DisksStay D.Disk disks fault.disks) }
+    ensures later { MatchResult result (λ world. NoneFell D.Disk disks (disks_of world.logs))
+        (λ fault. NoneFell D.Disk disks fault.disks) }
 {
-    let cause = match cause {
-        OpenCause::Damaged { at, harm } => OpeningCause::Damaged { at, harm },
-        OpenCause::Failed => OpeningCause::StoreFault(disk.faults()),
-        OpenCause::Memory => OpeningCause::Memory,
-    };
-    OpeningFault { disk, cause }
+    are_names(feeds.names());
+    let Options { group, delay } = options;
+    match reopen(alloc, disks, feeds, group, delay) {
+        Ok(world) => {
+            world.is_safe();
+            Ok(world)
+        }
+        Err(fault) => Err(fault),
+    }
 }
 
-/// The law of transaction logs: a file stands for one list at most, has one harm at most, and none where it stands
-/// for a list that is safe.
-pub(crate) fn files_are_opened_one_way()
-    ensures one { (file : List ℕ) (this that : Store) → IsImage this file → IsImage that file → this ≡ that }
-    ensures none { (file : List ℕ) (store : Store) (at : ℕ) (harm : Harm) →
-        IsImage store file → IsSafe store.entries → ¬ IsHarmed file at harm }
-    ensures harm { (file : List ℕ) (at place : ℕ) (harm other : Harm) →
-        IsHarmed file at harm → IsHarmed file place other → (at ≡ place) × (harm ≡ other) }
-{}
+// The law of every list of names: each is one.
+fn are_names(names: &[Name])
+    ensures { AllByRecursion IsName names.now }
+{
+    for name in names {
+        let _ = name.as_bytes();
+    }
+}

@@ -1,12 +1,14 @@
 //! How a run of the program ended.
 ghost use Rattle.std.specs.Prelude.{◌≡◌};
-ghost use Rattle.connect.specs.Statuses.{status_number};
+ghost use Rattle.connect.specs.Statuses.{status_number, status_of_cause, status_of_end, status_of_shelf, status_of_words};
 
-use crate::transactions::EventFault;
+use cw_cluster::DriveEnd;
+use cw_io::ShelfFault;
 use cw_log::Harm;
-use cw_script::{LineKind, ScriptFault};
+use cw_open::ReopenCause;
+use cw_script::LineKind;
 use cw_types::{DiskName, LogName};
-use std::alloc::AllocError;
+use cw_words::WordsFault;
 
 /// How a run ended. `main` exits with the status's number.
 #[derive(Clone, Copy, Debug, PartialEq, Eq, Drop)]
@@ -15,7 +17,7 @@ pub enum Status {
     Done,
     /// The words aren't a command.
     Usage,
-    /// This line, counted from 1, is the first that is no directive.
+    /// This line, counted from 1, is the first that is no directive, or names a worker or an instance that never was.
     BadScript {
         /// The line's number.
         line: u64,
@@ -45,7 +47,12 @@ pub enum Status {
         /// The first harm.
         harm: Harm,
     },
-    /// A log has no room for the event in hand: `length + frame` passes 2^28.
+    /// The feeds couldn't be loaded.
+    ShelfFault,
+    /// What a sink's task handed out couldn't be written.
+    OutletFault,
+    /// A log has no room for the event in hand, of no request: `length + frame` passes 2^28, or a record's offset
+    /// would pass 2^64 - 1.
     Full {
         /// The log.
         log: LogName,
@@ -72,41 +79,58 @@ impl Status {
             Status::WriteFault => 4,
             Status::StoreFault { .. } => 5,
             Status::Damaged { .. } => 6,
+            Status::ShelfFault => 7,
+            Status::OutletFault => 8,
             Status::Full { .. } => 10,
             Status::Memory => 11,
         }
     }
-}
 
-impl From<AllocError> for Status {
-    ghost use Rattle.std.specs.Prelude.{◌≡◌};
-    ghost use Rattle.connect.specs.declared.status.Status.TheVariants.{Memory};
-
-    ghost from_gives = { λ _ status. status ≡ Memory };
-
-    fn from(_: AllocError) -> Status {
-        Status::Memory
-    }
-}
-
-impl From<EventFault> for Status {
-    ghost use Rattle.std.specs.Prelude.{◌≡◌};
-    ghost use Rattle.connect.specs.Statuses.{status_of_event};
-
-    ghost from_gives = { λ fault status. status ≡ status_of_event fault };
-
-    fn from(fault: EventFault) -> Status {
+    /// How a run ends whose words are no command.
+    pub(crate) fn of_words(fault: WordsFault) -> Status
+        ensures { result ≡ status_of_words fault }
+    {
         match fault {
-            EventFault::StoreFault(count) => Status::StoreFault {
-                disk: DiskName::Txn,
-                count,
-            },
-            EventFault::Full { length, frame } => Status::Full {
-                log: LogName::Txn,
-                length,
-                frame,
-            },
-            EventFault::Memory => Status::Memory,
+            WordsFault::Usage => Status::Usage,
+            WordsFault::Memory => Status::Memory,
+        }
+    }
+
+    /// How a run ends whose feeds couldn't be loaded.
+    pub(crate) fn of_shelf(fault: ShelfFault) -> Status
+        ensures { result ≡ status_of_shelf fault }
+    {
+        match fault {
+            ShelfFault::Failed => Status::ShelfFault,
+            ShelfFault::Memory => Status::Memory,
+        }
+    }
+
+    /// How a run ends whose disks weren't opened.
+    pub(crate) fn of_cause(cause: ReopenCause) -> Status
+        ensures { result ≡ status_of_cause cause }
+    {
+        match cause {
+            ReopenCause::Damaged { disk, at, harm } => Status::Damaged { disk, at, harm },
+            ReopenCause::StoreFault { disk, count } => Status::StoreFault { disk, count },
+            ReopenCause::Memory => Status::Memory,
+        }
+    }
+
+    /// How a run ends whose script ended so.
+    pub(crate) fn of_end(end: DriveEnd) -> Status
+        ensures { result ≡ status_of_end end }
+    {
+        match end {
+            DriveEnd::Done => Status::Done,
+            DriveEnd::BadScript { line, kind } => Status::BadScript { line, kind },
+            DriveEnd::TooLong(count) => Status::TooLong(count),
+            DriveEnd::ReadFault => Status::ReadFault,
+            DriveEnd::WriteFault => Status::WriteFault,
+            DriveEnd::StoreFault { disk, count } => Status::StoreFault { disk, count },
+            DriveEnd::OutletFault => Status::OutletFault,
+            DriveEnd::Full { log, length, frame } => Status::Full { log, length, frame },
+            DriveEnd::Memory => Status::Memory,
         }
     }
 }

@@ -1,48 +1,89 @@
-//! Scripts in whose middle the output fails or memory is wanting, and the disk behind them.
+//! Scripts in whose middle the output or a disk fails, and the transaction log behind them, opened again.
 use crate::Status;
-use crate::drive::drive;
-use crate::opening::open_transactions;
-use cw_disk::{MemDisk, Way};
-use cw_io::{MemSink, MemSource};
+use crate::top::connect;
+use cw_disk::{Disks, MemDisk, Way};
+use cw_io::{MemOutlet, MemShelf, MemSink, MemSource};
+use cw_types::DiskName;
+use std::alloc::Global;
 use std::process::Abort;
 use std::test::Fail;
 
-// The log of two bumps.
-const TWO: &[u8] = b"\x01CWL\x01\x04\0\0\0\0\0\0\0\0\0\x01\
-    \x01\0\0\0\x0a\0\0\0\x01\x01\x03\0\0\0\0\
-    \x01\0\0\0\x0a\0\0\0\x01\x01\x03\0\0\0\x01\0";
-
-// Plays three bumps, each of which is read and answered alone, and of which two are in the log behind them.
-fn leaves_two<R: Abort + AllocGlobal>(
-    rt: &R,
-    most: u64,
-    failing: Vec<u64>,
-) -> Result<(Status, MemSink), Fail> {
-    let script = b"init 0\ninit 1\ninit 2\n".to_vec(rt.alloc())?;
-    let mut input = MemSource::new(script, 7, Vec::new(rt.alloc()));
-    let mut output = MemSink::new(rt.alloc(), 100, failing);
-    let disk = MemDisk::empty(rt.alloc()).with_memory_for(most);
-    let opened = open_transactions(rt.alloc(), disk).ok();
-    let transactions = opened.ok_or("an empty disk is not opened")?;
-    let driven = drive(rt.alloc(), transactions, &mut input, &mut output);
-    for way in [Way::AsRead, Way::Old, Way::Noise] {
-        assert_eq!(rt; driven.disk.image(way)?.bytes(), TWO);
+// Seven empty disks and this one of the transaction log.
+fn disks_with(alloc: Global, txn: MemDisk) -> Disks<MemDisk> {
+    Disks {
+        config_a: MemDisk::empty(alloc),
+        config_b: MemDisk::empty(alloc),
+        offsets_a: MemDisk::empty(alloc),
+        offsets_b: MemDisk::empty(alloc),
+        status_a: MemDisk::empty(alloc),
+        status_b: MemDisk::empty(alloc),
+        txn,
+        batches: MemDisk::empty(alloc),
     }
-    Ok((driven.status, output))
+}
+
+// Plays a script of lines that are read and answered one by one, over an output that fails at some calls.
+fn played<R: AllocGlobal>(
+    rt: &R,
+    txn: MemDisk,
+    script: &[u8],
+    failing: Vec<u64>,
+) -> Result<(Status, MemSink, MemDisk), Fail> {
+    let mut words = Vec::new(rt.alloc());
+    words.push(String::from_str(rt.alloc(), "drive")?)?;
+    let mut input = MemSource::new(script.to_vec(rt.alloc())?, 7, Vec::new(rt.alloc()));
+    let mut output = MemSink::new(rt.alloc(), 100, failing);
+    let mut shelf = MemShelf::new(rt.alloc(), Vec::new(rt.alloc()));
+    let outlet = MemOutlet::new(rt.alloc(), Vec::new(rt.alloc()));
+    let disks = disks_with(rt.alloc(), txn);
+    let outcome = connect(
+        rt,
+        &words,
+        disks,
+        &mut input,
+        &mut output,
+        &mut shelf,
+        outlet,
+    );
+    Ok((outcome.status, output, outcome.disks.txn))
+}
+
+// Whichever image a stop leaves of the disk, a producer has so many epochs there.
+fn has_epochs<R: Abort + AllocGlobal>(rt: &R, txn: &MemDisk, next: &[u8]) -> Result<(), Fail> {
+    for way in [Way::AsRead, Way::Old, Way::Noise] {
+        let (status, output, _) = played(rt, txn.image(way)?, b"init 1\n", Vec::new(rt.alloc()))?;
+        assert_eq!(rt; status, Status::Done);
+        assert_eq!(rt; output.bytes(), next);
+    }
+    Ok(())
 }
 
 #[test]
 fn an_answer_that_fails_leaves_its_event(rt: HostRuntime) -> Result<(), Fail> {
-    let (status, output) = leaves_two(&rt, 1000, vec![in rt.alloc(); 1]?)?;
+    let script = b"init 0\ninit 1\ninit 2\n";
+    let failing = vec![in rt.alloc(); 1]?;
+    let (status, output, txn) = played(&rt, MemDisk::empty(rt.alloc()), script, failing)?;
     assert_eq!(rt; status, Status::WriteFault);
     assert_eq!(rt; output.bytes(), b"epoch 1\n".as_slice());
-    Ok(())
+    has_epochs(&rt, &txn, b"epoch 2\n")
 }
 
 #[test]
-fn an_event_that_wants_memory_leaves_those_before_it(rt: HostRuntime) -> Result<(), Fail> {
-    let (status, output) = leaves_two(&rt, 50, Vec::new(rt.alloc()))?;
-    assert_eq!(rt; status, Status::Memory);
-    assert_eq!(rt; output.bytes(), b"epoch 1\nepoch 1\n".as_slice());
-    Ok(())
+fn a_disk_that_fails_leaves_the_event_before(rt: HostRuntime) -> Result<(), Fail> {
+    let disk = MemDisk::new(rt.alloc(), Vec::new(rt.alloc()), Vec::new(rt.alloc()), 14)?;
+    let (status, output, txn) = played(
+        &rt,
+        disk,
+        b"init 1\ninit 1\ninit 1\n",
+        Vec::new(rt.alloc()),
+    )?;
+    assert_eq!(rt;
+        status,
+        Status::StoreFault {
+            disk: DiskName::Txn,
+            count: 1
+        }
+    );
+    assert_eq!(rt; output.bytes(), b"epoch 1\n".as_slice());
+    has_epochs(&rt, &txn, b"epoch 2\n")
 }

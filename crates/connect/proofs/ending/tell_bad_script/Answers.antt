@@ -1,8 +1,8 @@
-use Rattle.std.proofs.Common.{◌∙◌, ◌++◌, ◌∷◌, [], List, ℕ, subst}
+use Rattle.std.proofs.Common.{◌≡◌, ◌∙◌, ◌++◌, ◌∷◌, [], List, ℕ, subst}
 use Rattle.std.specs.Prelude.{codes, decimal}
 use Rattle.cw_script.specs.Faults.{kind_text}
-use Rattle.connect.specs.Drives.{Writes}
-use Rattle.connect.proofs.SoFar.{writes_then}
+use Rattle.cw_io.specs.Told.{with_back}
+use Rattle.connect.proofs.Written.{writes_then}
 use Rattle.connect.proofs.ending.tell_bad_script.Goals as goal
 
 pub returns-clause-whole : goal.returns-clause-whole
@@ -16,8 +16,8 @@ returns-clause-whole g c =
     let front = codes "status 2 BadScript " in
     let line = decimal c.args.line in
     let name = kind_text c.args.kind in
-    let numbered : Writes line one two = subst (λ (t : List ℕ). Writes t one two) (c.as_bytes.ensures.value ∙ c.format.ensures.text) c.in_ok-write_all-2.ensures.whole in
-    let named : Writes name three four = subst (λ (t : List ℕ). Writes t three four) (c.as_bytes-2.ensures.value ∙ c.name.ensures) c.in_ok-write_all-4.ensures.whole in
+    let numbered : two ≡ with_back line one = subst (λ (t : List ℕ). two ≡ with_back t one) (c.as_bytes.ensures.value ∙ c.format.ensures.text) c.in_ok-write_all-2.ensures.whole in
+    let named : four ≡ with_back name three = subst (λ (t : List ℕ). four ≡ with_back t three) (c.as_bytes-2.ensures.value ∙ c.name.ensures) c.in_ok-write_all-4.ensures.whole in
     writes_then (front ++ line ++ 32 ∷ [] ++ name) (10 ∷ []) start four five
     (writes_then (front ++ line ++ 32 ∷ []) name start three four
     (writes_then (front ++ line) (32 ∷ []) start two three

@@ -1,27 +1,22 @@
-use Rattle.connect.proofs.OneOpening.{safe_is_harmless}
-use Rattle.connect.proofs.Safety.{lines_are_safe}
-use Rattle.connect.proofs.TopLemmas.{refused_for, done_or_memory}
+use Rattle.std.proofs.Common.{map, string_bytes, subst}
+use Rattle.cw_words.specs.Asked.{command_of}
+use Rattle.cw_words.specs.declared.command.Options.{Options}
+use Rattle.connect.specs.Opening.{IsSetFor}
+use Rattle.connect.proofs.Runs.{refused, completed, calm, same_options}
 use Rattle.connect.proofs.top.connect.Goals as goal
 
-pub returns-then-not-names_drive-clause-safe : goal.returns-then-not-names_drive-clause-safe
-returns-then-not-names_drive-clause-safe g c = λ store bytes lines safe. lines_are_safe lines bytes store safe
+pub returns-in-Ok-clause-damaged : goal.returns-in-Ok-clause-damaged
+returns-in-Ok-clause-damaged g c = λ options asked files tell at place harm has.
+    refused g.D.Disk g.I.Source g.O.Sink g.H.Shelf g.U.Outlet c.options_of.result c.open_and_drive.result.status c.args.shelf.now c.args.input.now c.open_and_drive.new.input c.args.output.now c.open_and_drive.new.output
+    c.args.disks c.open_and_drive.result.disks c.args.outlet c.open_and_drive.result.outlet c.open_and_drive.ensures.runs c.open_and_drive.ensures.damaged_only c.left_files_open_again.ensures.harmless files tell at place harm has
 
-pub returns-then-not-names_drive-clause-reopens : goal.returns-then-not-names_drive-clause-reopens
-returns-then-not-names_drive-clause-reopens g c = λ store image safe stands at harm harmed. safe_is_harmless image store at harm stands safe harmed
-
-pub returns-clause-safe : goal.returns-clause-safe
-returns-clause-safe g c = λ store bytes lines safe. lines_are_safe lines bytes store safe
-
-pub returns-clause-reopens : goal.returns-clause-reopens
-returns-clause-reopens g c = λ store image safe stands at harm harmed. safe_is_harmless image store at harm stands safe harmed
-
-pub returns-clause-damaged : goal.returns-clause-damaged
-returns-clause-damaged g c = λ words file told at harm harmed.
-    refused_for g.D.Disk g.I.Source g.O.Sink c.open_and_drive-driven.result.status c.args.input.now c.open_and_drive-driven.new.input c.args.output.now c.open_and_drive-driven.new.output c.args.disks.txn c.open_and_drive-driven.result.disk
-    c.open_and_drive-driven.ensures.runs c.open_and_drive-driven.ensures.damaged_only file told at harm harmed
-
-pub returns-clause-complete : goal.returns-clause-complete
-returns-clause-complete g c = λ words bytes told file holds_it store safe image fine calm_in calm_out calm_disk.
-    done_or_memory g.D.Disk g.I.Source g.O.Sink c.open_and_drive-driven.result.status c.args.input.now c.open_and_drive-driven.new.input c.args.output.now c.open_and_drive-driven.new.output c.args.disks.txn c.open_and_drive-driven.result.disk
-    c.open_and_drive-driven.ensures.runs c.open_and_drive-driven.ensures.damaged_only bytes told file holds_it store safe image fine
-    (λ is. calm_in (c.open_and_drive-driven.ensures.read_fault is)) (λ is. calm_out (c.open_and_drive-driven.ensures.write_fault is)) (λ name count is. calm_disk ((c.open_and_drive-driven.ensures.store_fault name count is).1.rose))
+pub returns-in-Ok-clause-complete : goal.returns-in-Ok-clause-complete
+returns-in-Ok-clause-complete g c = λ options asked bytes told files tell stored s lists stand fine calm_in calm_out calm_shelf calm_outlet calm_disks.
+    calm c.open_and_drive.result.status
+    (completed g.D.Disk g.I.Source g.O.Sink g.H.Shelf g.U.Outlet c.options_of.result c.open_and_drive.result.status c.args.shelf.now c.args.input.now c.open_and_drive.new.input c.args.output.now c.open_and_drive.new.output
+    c.args.disks c.open_and_drive.result.disks c.args.outlet c.open_and_drive.result.outlet c.open_and_drive.ensures.runs
+    (λ disk at harm is. c.files_open_one_way.ensures.harm files stored s disk at harm lists stand (c.open_and_drive.ensures.damaged_only disk at harm is files tell))
+    c.each_script_is_played_alike.ensures.whole bytes told
+    (λ setting t tells set from. fine setting t tells (subst (λ (o : Options). IsSetFor g.H.Shelf o c.args.shelf.now setting) (same_options (command_of (map string_bytes c.args.words.now)) c.options_of.result options c.in-Ok.command c.in-Ok.ensures.asked c.options_of.ensures asked) set) from))
+    (λ is. calm_in (c.open_and_drive.ensures.read_fault is)) (λ is. calm_out (c.open_and_drive.ensures.write_fault is)) (λ is. calm_shelf (c.open_and_drive.ensures.shelf_fault is)) (λ is. calm_outlet (c.open_and_drive.ensures.outlet_fault is))
+    (λ disk count is. calm_disks disk (c.open_and_drive.ensures.store_fault disk count is).rose)

@@ -1,27 +1,41 @@
-use Rattle.std.proofs.Common.{◌≡◌, ℕ, List, Some, inr, ap, sym, ◌∙◌}
+use Rattle.std.proofs.Common.{◌∙◌, inr, refl, sym, subst}
+use Rattle.cw_open.specs.Reopened.{disk_in}
 use Rattle.cw_types.specs.Faults.{Rose}
-use Rattle.connect.specs.declared.status.Status.TheVariants.{Done}
-use Rattle.connect.specs.Harms.{IsHarmed, HoldsAlike}
-use Rattle.connect.proofs.TopLemmas.{opened, opens_new, refused_damaged, refused_otherwise}
+use Rattle.cw_world.specs.Ending.{disks_of}
+use Rattle.cw_cluster.specs.Breaking.{ran_of}
+use Rattle.cw_cluster.specs.Driven.{faults_at, faults_of}
+use Rattle.connect.specs.Making.{AreMade}
+use Rattle.connect.proofs.Opened.{all_made}
+use Rattle.connect.proofs.Refused.{ended_store, rose_from}
+use Rattle.connect.proofs.Runs.{not_done}
 use Rattle.connect.proofs.top.open_and_drive.Goals as goal
 
 pub returns-in-Ok-clause-runs : goal.returns-in-Ok-clause-runs
-returns-in-Ok-clause-runs g c =
-    inr (opened g.D.Disk g.I.Source g.O.Sink c.drive.result.status c.args.input.now c.drive.new.input c.args.output.now c.drive.new.output c.args.disk c.drive.result.disk c.in-Ok.transactions
-    c.in-Ok.ensures.safe c.in-Ok.ensures.told c.in-Ok.ensures.image c.in-Ok.ensures.any_moment c.drive.ensures.drives c.drive.ensures.moments)
+returns-in-Ok-clause-runs g c = inr (record {
+  setting = c.in-Ok.world.setting;
+  ran = ran_of g.D.Disk g.U.Outlet c.in-Ok.world c.args.outlet;
+  set = c.in-Ok.ensures.set;
+  from = c.in-Ok.ensures.from;
+  files = refl;
+  end = c.drive-end.result.end;
+  status_is = c.of_end.ensures;
+  drives = λ bytes told. c.drive-end.ensures.drives bytes told;
+})
 
-pub returns-in-Err-clause-damaged_only : goal.returns-in-Err-clause-damaged_only
-returns-in-Err-clause-damaged_only g c = λ name at harm is.
-    let of = refused_damaged
-    (λ at harm. HoldsAlike (g.D.Disk.holds c.args.disk) (g.D.Disk.holds c.in-Err.fault.disk) × ((file : List ℕ) → g.D.Disk.holds c.args.disk ≡ Some file → IsHarmed file at harm))
-    (λ count. Rose (g.D.Disk.count c.args.disk) (g.D.Disk.count c.in-Err.fault.disk) × (count ≡ g.D.Disk.count c.in-Err.fault.disk))
-    (HoldsAlike (g.D.Disk.holds c.args.disk) (g.D.Disk.holds c.in-Err.fault.disk)) c.in-Err.fault.cause c.in-Err.ensures.cause name at harm (sym c.status_of_cause.ensures ∙ is) in
-    (of.0, of.1.1)
+pub returns-in-Ok-clause-store_fault : goal.returns-in-Ok-clause-store_fault
+returns-in-Ok-clause-store_fault g c = λ disk count is.
+    let risen = ended_store (Rose (g.I.Source.faults c.args.input.now) (g.I.Source.faults c.drive-end.new.input)) (Rose (g.O.Sink.faults c.args.output.now) (g.O.Sink.faults c.drive-end.new.output))
+    (faults_of g.D.Disk g.U.Outlet c.in-Ok.world c.args.outlet) (faults_at g.D.Disk g.U.Outlet c.drive-end.result.disks c.drive-end.result.outlet)
+    c.drive-end.result.end c.drive-end.ensures.caused disk count (sym c.of_end.ensures ∙ is) in
+    record {
+      now_is = risen.is;
+      rose = rose_from (g.D.Disk.count (disk_in disk c.args.disks)) (g.D.Disk.count (disk_in disk (disks_of c.in-Ok.world.logs))) (g.D.Disk.count (disk_in disk c.drive-end.result.disks))
+          (c.in-Ok.ensures.later_disks disk) risen.rose;
+    }
 
 pub returns-in-Ok-clause-makes : goal.returns-in-Ok-clause-makes
-returns-in-Ok-clause-makes g c = λ empty done file is unmade.
-    ap g.D.Disk.holds (c.drive.ensures.idle empty) ∙ opens_new c.in-Ok.transactions.log.number file (g.D.Disk.holds c.in-Ok.transactions.log.disk) unmade (c.in-Ok.ensures.bytes file is)
+returns-in-Ok-clause-makes g c = λ empty done files tell unmade.
+    subst (AreMade g.D.Disk files) (sym (c.drive-end.ensures.idle empty).0) (all_made g.D.Disk c.args.disks c.in-Ok.world.logs files c.in-Ok.ensures.logs tell unmade)
 
 pub returns-in-Err-clause-makes : goal.returns-in-Err-clause-makes
-returns-in-Err-clause-makes g c = λ empty done file is unmade.
-    absurd (refused_otherwise c.in-Err.fault.cause Done (λ wrong. wrong) (sym c.status_of_cause.ensures ∙ done))
+returns-in-Err-clause-makes g c = λ empty done files tell unmade. absurd (not_done g.D.Disk c.args.disks c.in-Err.refusal.disks c.in-Err.refusal.status c.in-Err.ensures.left done)
