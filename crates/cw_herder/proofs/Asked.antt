@@ -1,9 +1,7 @@
 -- What the events of a tick ask, and what they come to, from what is so where the turn is taken.
-use Rattle.std.proofs.Common.{◌≡◌, ◌≢◌, ◌<◌, ◌≤◌, ℕ, Bool, true, false, List, length, max, Option, Some, None, IsSome, Result, Ok, Err, refl, sym, ◌∙◌, ap, subst, arith, inl, inr, unwrap_or, if◌then◌else◌}
+use Rattle.std.proofs.Common.{◌≡◌, ◌≢◌, ◌<◌, ℕ, Bool, true, false, length, max, Option, Some, None, IsSome, Result, Ok, Err, refl, sym, ◌∙◌, ap, subst, arith, inl, inr, unwrap_or, if◌then◌else◌}
 use Rattle.std.specs.Option.{option_map, is_some}
-use Rattle.std.proofs.lemmas.Bool.{ltb-true, ltb-false}
 use Rattle.std.proofs.lemmas.List.{length-set}
-use Rattle.cw_types.specs.declared.ids.Epoch.{Epoch}
 use Rattle.cw_types.specs.declared.ids.Item.{Item}
 use Rattle.cw_types.specs.declared.logs.DiskName.{DiskName}
 use Rattle.cw_laws.proofs.Lists.{read-cases}
@@ -11,18 +9,15 @@ use Rattle.cw_model.specs.declared.fault.WorldFault.{WorldFault}
 use Rattle.cw_model.specs.declared.fault.WorldFault.TheVariants.{Dead, Memory}
 use Rattle.cw_model.specs.declared.instance.Instance.{Instance}
 use Rattle.cw_model.specs.declared.row.Row.{Row}
-use Rattle.cw_model.specs.declared.tick.Tick.{Tick}
 use Rattle.cw_model.specs.declared.tick.Tick.TheVariants as outcome
 use Rattle.cw_model.specs.State.{Setting, Cluster}
 use Rattle.cw_model.specs.Answers.{Answer, answered, refused, unless_closed}
 use Rattle.cw_model.specs.EventsItems.{read_config, stop_item}
-use Rattle.cw_model.specs.EventsLeading.{fencing_of, fence_one, append_fence, append_config}
 use Rattle.cw_model.specs.EventsReports.{MayReport}
 use Rattle.cw_model.specs.EventsWorkers.{clock}
-use Rattle.cw_model.specs.Lookups.{row_of, seen, no_row}
-use Rattle.cw_model.specs.Proposals.{proposal_of, commit_records, task_records}
+use Rattle.cw_model.specs.Lookups.{row_of, no_row}
 use Rattle.cw_model.specs.Tick.{rule_for}
-use Rattle.cw_model.specs.TickRules.{Rule, tells, unless_lost, report_applies}
+use Rattle.cw_model.specs.TickRules.{tells, report_applies}
 use Rattle.cw_model.specs.Updates.{changes_row}
 use Rattle.cw_ticks.specs.declared.turn.Turn.TheVariants as turn
 use Rattle.cw_ticks.specs.Turns.{IsTurn}
@@ -84,49 +79,6 @@ module _ (w : ℕ) (s : Cluster) where
       rule_for w s ≡ Some (λ _. tells (stop_item number s) (λ _ _. outcome.Stop item))
   stop-rule item number is = is.follows ∙
       ap (λ (n : ℕ). Some (λ (_ : Unit {0}). tells (stop_item n s) (λ _ _. outcome.Stop item))) (sym is.told)
-
-  module _ (name : List ℕ) where
-    abbrev pub fenced : ℕ × Epoch → Cluster → Tick
-    fenced did t = outcome.Fence (record { connector = name; index = did.0 }) did.1.0
-
-    abbrev pub all_fenced : ℕ → Cluster → Tick
-    all_fenced offset t = outcome.FenceRecord name offset
-
-    abbrev fences_if : Bool → Rule
-    fences_if b = Some (λ _. unless_lost (if b then tells (fence_one w name s) fenced else tells (append_fence w name s) all_fenced))
-
-    pub fence-rule : IsTurn (turn.Fence name true) w s → rule_for w s ≡ Some (λ _. unless_lost (tells (fence_one w name s) fenced))
-    fence-rule is = is.follows ∙ ap fences_if (sym is.told)
-
-    pub fence-left : IsTurn (turn.Fence name true) w s → (fencing_of w name s).next < (fencing_of w name s).count
-    fence-left is = ltb-true (fencing_of w name s).next (fencing_of w name s).count (sym is.told)
-
-    pub fenced-rule : IsTurn (turn.Fence name false) w s →
-        rule_for w s ≡ Some (λ _. unless_lost (tells (append_fence w name s) all_fenced))
-    fenced-rule is = is.follows ∙ ap fences_if (sym is.told)
-
-    pub fence-done : IsTurn (turn.Fence name false) w s → (fencing_of w name s).count ≤ (fencing_of w name s).next
-    fence-done is = ltb-false (fencing_of w name s).next (fencing_of w name s).count (sym is.told)
-
-    module _ (leader : ℕ) where
-      abbrev pub proposed : ℕ → Cluster → Tick
-      proposed offset t = outcome.Propose name (length (proposal_of name (seen w s)))
-
-      abbrev pub committed : ℕ → Cluster → Tick
-      committed offset t = outcome.Commit name offset
-
-      abbrev proposes_if : Bool → Rule
-      proposes_if b = Some (λ _. unless_lost (
-          if b then tells (append_config leader (commit_records name (length (proposal_of name (seen w s)))) s) committed
-          else tells (append_config leader (task_records name (proposal_of name (seen w s))) s) proposed))
-
-      pub propose-rule : IsTurn (turn.Propose leader name false) w s → rule_for w s ≡
-          Some (λ _. unless_lost (tells (append_config leader (task_records name (proposal_of name (seen w s))) s) proposed))
-      propose-rule is = is.follows ∙ ap proposes_if (sym is.told)
-
-      pub commit-rule : IsTurn (turn.Propose leader name true) w s → rule_for w s ≡
-          Some (λ _. unless_lost (tells (append_config leader (commit_records name (length (proposal_of name (seen w s)))) s) committed))
-      commit-rule is = is.follows ∙ ap proposes_if (sym is.told)
 
 -- ---- the moment
 

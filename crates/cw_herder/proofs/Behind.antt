@@ -17,7 +17,7 @@ use Rattle.cw_txn.specs.declared.entry.SetOffset.{SetOffset}
 use Rattle.cw_txn.specs.Body.{entries_bytes}
 use Rattle.cw_model.specs.declared.fault.WorldFault.{WorldFault}
 use Rattle.cw_model.specs.declared.fault.WorldFault.TheVariants.{Fenced, StaleGeneration, PendingFence, BadCut, Gone, Full, StoreFault, Closed, Dead, Group, TooMany, Memory}
-use Rattle.cw_model.specs.State.{Cluster}
+use Rattle.cw_model.specs.State.{Setting, Cluster}
 use Rattle.cw_model.specs.StandsFor.{Stored}
 use Rattle.cw_model.specs.Answers.{Answer, answered, refused, unless_closed}
 use Rattle.cw_model.specs.Bodies.{config_body, config_length, txn_length, frame_of}
@@ -31,18 +31,13 @@ use Rattle.cw_ops.specs.declared.answering.Answers.{Answers}
 use Rattle.cw_ops.specs.Answering.{AreAnswers}
 use Rattle.cw_ops.specs.Requests.{answers, behind_write, reply_now, written}
 use Rattle.cw_world.specs.Logs.{LogsState, HaveSameOthers, KeepsOn, AddsTo, LeavesNow, IsApart, view_in, list_in, faults_in}
-use Rattle.cw_world.specs.World.{WorldState, DoesOrWants, Writes, RunsOut, Breaks, Acts}
-use Rattle.cw_world.proofs.Acting.{writes-acts}
+use Rattle.cw_world.specs.World.{WorldState, DoesOrWants, RunsOut, Breaks, Acts}
 use Rattle.cw_world.proofs.Writing.{is-memory}
-use Rattle.cw_herder.specs.Submits.{Submits, StopsShort, told_refusal, reads_back}
+use Rattle.cw_herder.specs.declared.op.OpDone.{OpDone}
+use Rattle.cw_herder.specs.Operations.{told_as, done_as}
+use Rattle.cw_herder.specs.Submits.{IsWriteTo, Submits, StopsShort, told_refusal, reads_back}
 
--- ---- what is known of an event that writes to one log
-
--- a log that is full is its log, and changes nothing; where it is done, the workers are as before, and no disk has failed
-pub record IsWriteTo {A : Type 0} (log : LogName) (event : Answer A) (s : Cluster) : Type 0 where
-  pub full : (other : LogName) (length frame : ℕ) → event.0 ≡ Err (Full other length frame) → (other ≡ log) × (event.1 ≡ s)
-  pub rows : (x : A) → event.0 ≡ Ok x → event.1.rows ≡ s.rows
-  pub alive : (x : A) → event.0 ≡ Ok x → event.1.closed ≡ s.closed
+-- ---- an event that writes to one log
 
 module _ {A : Type 0} (log : LogName) (s : Cluster) where
   closed-write : (o : Option (DiskName × ℕ)) (done : Answer A) → IsWriteTo log done s → IsWriteTo log (unless_closed o done s) s
@@ -93,6 +88,44 @@ offsets-write leader name list s =
     (refused (Full Txn (txn_length s) (frame_of (entries_bytes frame))) s)
     (done-write Txn s tt (with_entries frame s) refl refl)
     (full-write Txn s (txn_length s) (frame_of (entries_bytes frame))))
+
+-- ---- an operation's event
+
+abbrev answer_of : {A : Type 0} → Result A WorldFault → Cluster → Answer A
+answer_of r t = (r, t)
+
+told-write : {A : Type 0} (log : LogName) (r : Result A WorldFault) (t s : Cluster) (tell : A → OpDone) → IsWriteTo log (answer_of r t) s →
+    IsWriteTo log (done_as (answer_of r t) tell) s
+told-write log (Ok x) t s tell is = record {
+  full = λ other length frame e. absurd (cc);
+  rows = λ y e. is.rows x refl;
+  alive = λ y e. is.alive x refl;
+}
+told-write log (Err fault) t s tell is = record {
+  full = λ other length frame e. let same : fault ≡ Full other length frame = cc in is.full other length frame (ap (λ (f : WorldFault). Err f) same);
+  rows = λ y e. absurd (cc);
+  alive = λ y e. absurd (cc);
+}
+
+pub op-write : {A : Type 0} (log : LogName) (did : Answer A) (s : Cluster) (tell : A → OpDone) → IsWriteTo log did s → IsWriteTo log (done_as did tell) s
+op-write log did s tell is = told-write log did.0 did.1 s tell is
+
+-- a call is answered by an operation as by its event
+pub behind-op : {A : Type 0} (setting : Setting) (w : ℕ) (call : Call) (s : Cluster) (r : Result A WorldFault) (t : Cluster) (tell : A → OpDone) →
+    behind_write setting w call s r t ≡ behind_write setting w call s (told_as r tell) t
+behind-op setting w call s (Ok x) t tell = refl
+behind-op setting w call s (Err (Full log length frame)) t tell = refl
+behind-op setting w call s (Err (Fenced own current)) t tell = refl
+behind-op setting w call s (Err (StaleGeneration own current)) t tell = refl
+behind-op setting w call s (Err PendingFence) t tell = refl
+behind-op setting w call s (Err (BadCut from to)) t tell = refl
+behind-op setting w call s (Err (Gone i)) t tell = refl
+behind-op setting w call s (Err (StoreFault disk count)) t tell = refl
+behind-op setting w call s (Err (Closed disk count)) t tell = refl
+behind-op setting w call s (Err (Dead v)) t tell = refl
+behind-op setting w call s (Err (Group cause)) t tell = refl
+behind-op setting w call s (Err TooMany) t tell = refl
+behind-op setting w call s (Err Memory) t tell = refl
 
 -- ---- what a worker's reading leaves stored
 
@@ -175,15 +208,15 @@ module _ {D A : Type 0} (G : Ghosts D) (event : Cluster → Answer A) (log : Log
       told_refusal made fault ≡ Err (StoreFault disk count)
   broken-as fault disk count e = let same : fault ≡ StoreFault disk count = cc in ap (told_refusal made) same
 
-  pub refused-acts : (new : WorldState D) (fault : WorldFault) → Writes G log event old new (Err fault) →
+  pub refused-acts : (new : WorldState D) (fault : WorldFault) → Acts G event old new (Err fault) →
       Acts G (answers old.setting w call) old new (told_refusal made fault)
-  refused-acts new fault writes = let acts = writes-acts G event old new log (Err fault) writes in record {
-    log = log;
+  refused-acts new fault acts = record {
+    log = acts.log;
     answers = ⊎_elim
         (λ (row : event old.state ≡ (Err fault, new.state)). inl (refused-as fault new.state row))
-        (λ (faults : RunsOut G log old new (failing fault) ⊎ Breaks G log event old new (Err fault)). inr (⊎_elim
-        (λ (out : RunsOut G log old new (failing fault)). inl (record { answer = out-as fault out.answer; state = out.state; same = out.same }))
-        (λ (b : Breaks G log event old new (Err fault)). inr (record {
+        (λ (faults : RunsOut G acts.log old new (failing fault) ⊎ Breaks G acts.log event old new (Err fault)). inr (⊎_elim
+        (λ (out : RunsOut G acts.log old new (failing fault)). inl (record { answer = out-as fault out.answer; state = out.state; same = out.same }))
+        (λ (b : Breaks G acts.log event old new (Err fault)). inr (record {
           disk = b.disk;
           count = b.count;
           answer = broken-as fault b.disk b.count b.answer;
@@ -192,16 +225,16 @@ module _ {D A : Type 0} (G : Ghosts D) (event : Cluster → Answer A) (log : Log
           state = b.state;
           fails = b.fails;
           same = b.same;
-          left = subst (λ (those : Stored). (told : List (List ℕ)) → (view_in G log old.logs).bodies ≡ Some told →
-              LeavesNow G log new.logs (λ list. (list ≡ list_in log (stored_of old.state)) ⊎ (list ≡ list_in log those)))
+          left = subst (λ (those : Stored). (told : List (List ℕ)) → (view_in G acts.log old.logs).bodies ≡ Some told →
+              LeavesNow G acts.log new.logs (λ list. (list ≡ list_in acts.log (stored_of old.state)) ⊎ (list ≡ list_in acts.log those)))
               (sym stored) b.left;
-          apart = subst (λ (those : Stored). IsApart log (stored_of old.state) those) (sym stored) b.apart;
+          apart = subst (λ (those : Stored). IsApart acts.log (stored_of old.state) those) (sym stored) b.apart;
         }))
         faults))
-        writes.answers;
-    setting = writes.setting;
-    name = writes.name;
-    others = writes.others;
+        acts.answers;
+    setting = acts.setting;
+    name = acts.name;
+    others = acts.others;
     leaves = λ any. subst (λ (those : Stored). (told : List (List ℕ)) → (view_in G any old.logs).bodies ≡ Some told →
         AddsTo G any old.logs new.logs (λ list. (list ≡ list_in any (stored_of old.state)) ⊎ (list ≡ list_in any those)))
         (sym stored) (acts.leaves any);
@@ -210,15 +243,15 @@ module _ {D A : Type 0} (G : Ghosts D) (event : Cluster → Answer A) (log : Log
 
   -- ---- its event was done, and its worker reads
 
-  module _ (mid new : WorldState D) (x : A) (result : Result Reply WorldFault) (writes : Writes G log event old mid (Ok x))
+  module _ (mid new : WorldState D) (x : A) (result : Result Reply WorldFault) (acts : Acts G event old mid (Ok x))
       (reads : DoesOrWants (reads_back w made.done) mid new result) where
     event-row : event old.state ≡ (Ok x, mid.state)
     event-row = ⊎_elim (λ (row : event old.state ≡ (Ok x, mid.state)). row)
-        (λ (faults : RunsOut G log old mid (Ok x) ⊎ Breaks G log event old mid (Ok x)). ⊎_elim
-        (λ (out : RunsOut G log old mid (Ok x)). absurd (let no : Ok x ≡ Err Memory = out.answer in cc))
-        (λ (b : Breaks G log event old mid (Ok x)). absurd (let no : Ok x ≡ Err (StoreFault b.disk b.count) = b.answer in cc))
+        (λ (faults : RunsOut G acts.log old mid (Ok x) ⊎ Breaks G acts.log event old mid (Ok x)). ⊎_elim
+        (λ (out : RunsOut G acts.log old mid (Ok x)). absurd (let no : Ok x ≡ Err Memory = out.answer in cc))
+        (λ (b : Breaks G acts.log event old mid (Ok x)). absurd (let no : Ok x ≡ Err (StoreFault b.disk b.count) = b.answer in cc))
         faults)
-        writes.answers
+        acts.answers
 
     pub mid-rows : mid.state.rows ≡ old.state.rows
     mid-rows = ap (λ (a : Answer A). a.1.rows) (sym event-row) ∙ write.rows x (ap (λ (a : Answer A). a.0) event-row)
@@ -237,22 +270,22 @@ module _ {D A : Type 0} (G : Ghosts D) (event : Cluster → Answer A) (log : Log
         AddsTo G any old.logs new.logs (λ list. (list ≡ list_in any (stored_of old.state)) ⊎ (list ≡ list_in any those))) same
         (subst (λ (logs : LogsState D). (told : List (List ℕ)) → (view_in G any old.logs).bodies ≡ Some told →
         AddsTo G any old.logs logs (λ list. (list ≡ list_in any (stored_of old.state)) ⊎ (list ≡ list_in any (stored_of (event old.state).1))))
-        (sym reads.logs) ((writes-acts G event old mid log (Ok x) writes).leaves any))
+        (sym reads.logs) (acts.leaves any))
 
     keeps-to : (any : LogName) → KeepsOn (view_in G any old.logs) (view_in G any new.logs) (faults_in G any old.logs) (faults_in G any new.logs)
     keeps-to any = subst (λ (logs : LogsState D). KeepsOn (view_in G any old.logs) (view_in G any logs) (faults_in G any old.logs) (faults_in G any logs))
-        (sym reads.logs) ((writes-acts G event old mid log (Ok x) writes).keeps any)
+        (sym reads.logs) (acts.keeps any)
 
-    others-to : HaveSameOthers log old.logs new.logs
-    others-to = subst (λ (logs : LogsState D). HaveSameOthers log old.logs logs) (sym reads.logs) writes.others
+    others-to : HaveSameOthers acts.log old.logs new.logs
+    others-to = subst (λ (logs : LogsState D). HaveSameOthers acts.log old.logs logs) (sym reads.logs) acts.others
 
     read-done : result ≢ Err Memory → Acts G (answers old.setting w call) old new result
     read-done fine = record {
-      log = log;
+      log = acts.log;
       answers = inl (is ∙ ap (λ (a : Answer A). behind a.0 a.1) event-row ∙
           ap (λ (r : Reply). answering (Ok r) (read_config w mid.state).1) (sym are.done) ∙ reads.done fine);
-      setting = reads.setting ∙ writes.setting;
-      name = reads.name ∙ writes.name;
+      setting = reads.setting ∙ acts.setting;
+      name = reads.name ∙ acts.name;
       others = others-to;
       leaves = leaves-to (answers old.setting w call old.state).1 (sym stored);
       keeps = keeps-to;
@@ -263,11 +296,11 @@ module _ {D A : Type 0} (G : Ghosts D) (event : Cluster → Answer A) (log : Log
     read-short leader through same wants =
         let state : new.state ≡ (event old.state).1 = reads.wants wants ∙ sym mid-is in
         record {
-          log = log;
+          log = acts.log;
           answer = wants;
           state = record { leader = leader; through = through; succeeds = are.succeeds; is = state ∙ sym same };
-          setting = reads.setting ∙ writes.setting;
-          name = reads.name ∙ writes.name;
+          setting = reads.setting ∙ acts.setting;
+          name = reads.name ∙ acts.name;
           others = others-to;
           leaves = leaves-to new.state (ap stored_of (sym state));
           keeps = keeps-to;

@@ -1,6 +1,10 @@
 pub mod Acted
+pub mod Done
 pub mod Ticked
 pub mod Asked
+pub mod Led
 pub mod Asking
 pub mod Behind
+pub mod Named
+pub mod Called
 pub mod Replied

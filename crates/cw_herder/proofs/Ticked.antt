@@ -68,12 +68,11 @@ module _ {D A : Type 0} (G : Ghosts D) (event : Cluster → Answer A) (tell : A 
     pub writes-tick : (log : LogName) → Writes G log event old new result → Acts G (tick w) old new answer
     writes-tick log writes = acts (writes-acts G event old new log result writes)
 
-  pub lost-tick : rule_for w old.state ≡ Some (λ _. unless_lost (tells (event old.state) tell)) →
-      answer ≡ or_lost (told result (λ x. tell x new.state)) → (log : LogName) → Writes G log event old new result →
-      Acts G (tick w) old new answer
-  lost-tick rule telling log writes = acts-as G event (tick w) old new result answer
+  pub asked-tick : rule_for w old.state ≡ Some (λ _. unless_lost (tells (event old.state) tell)) →
+      answer ≡ or_lost (told result (λ x. tell x new.state)) → Acts G event old new result → Acts G (tick w) old new answer
+  asked-tick rule telling done = acts-as G event (tick w) old new result answer
       (lost-as (event old.state) tell result new.state (tick w old.state) answer
-      (ticks w old.state (unless_lost (tells (event old.state) tell)) live rule) telling) (writes-acts G event old new log result writes)
+      (ticks w old.state (unless_lost (tells (event old.state) tell)) live rule) telling) done
 
 -- nothing was done
 module _ {D : Type 0} (G : Ghosts D) (w : ℕ) (old : WorldState D) where

@@ -1,158 +1,129 @@
-//! The leader writes the tasks of a connector that the worker runs, and their commit (Connect's task configs and commit
+//! The leader writes the tasks that a connector's config asks for, and their commit (Connect's task configs and commit
 //! records in the config topic).
-ghost use Rattle.std.specs.Prelude.{◌≡◌, ◌<◌, ◌≤◌, ◌-◌, ◌^◌, true, false, [], length, IfOk};
-ghost use Rattle.cw_model.specs.ConfigsAllowed.{AreAllowedConfigs};
-ghost use Rattle.cw_model.specs.Lookups.{row_of, seen};
-ghost use Rattle.cw_model.specs.Proposals.{proposal_of, task_records, commit_records};
-ghost use Rattle.cw_model.specs.Tick.{tick};
-ghost use Rattle.cw_ticks.specs.declared.turn.Turn.TheVariants as turn;
-ghost use Rattle.cw_ticks.specs.Turns.{IsTurn};
+ghost use Rattle.std.specs.Prelude.{◌≡◌, ◌<◌, ◌≤◌, ◌-◌, ◌^◌, length, IfOk, if◌then◌else◌};
+ghost use Rattle.cw_types.specs.Name.{IsName};
+ghost use Rattle.cw_model.specs.Proposals.{proposal_of, are_deferred, commit_records, task_records};
+ghost use Rattle.cw_ticks.specs.Proposed.{AreFaultless};
+ghost use Rattle.cw_herder.specs.declared.op.OpDone.TheVariants as done;
+ghost use Rattle.cw_herder.specs.Operations.{proposal_records, told_proposal, proposes, MayPropose};
 ghost use Rattle.cw_world.specs.World.{Acts};
 
-use crate::fencing::unless_lost;
+use crate::op::OpDone;
+use cw_config::ConfigState;
 use cw_disk::Disk;
 use cw_json::Props;
 use cw_keys::{ConfigKey, ConfigValue};
-use cw_laws::proposals_may_be_written;
-use cw_model::{Tick, WorldFault};
-use cw_rows::Cluster;
-use cw_ticks::{commit_records, proposal_of, task_records};
+use cw_model::WorldFault;
+use cw_ticks::{are_deferred, commit_records, proposal_of, task_records};
 use cw_types::Name;
 use cw_world::World;
 use std::alloc::{AllocError, Global};
 
-// What is written, and how many tasks it is of.
+// What is written: the tasks' records, or the record that commits them.
 #[derive(Drop)]
-struct Writing {
+struct Proposal {
     records: Vec<(ConfigKey, Option<ConfigValue>)>,
     count: u32,
+    commits: bool,
 }
 
-/// It writes a record for each task, and tells how many.
+/// A record for each task is written, or, once these stand, the record that commits them.
 pub(crate) fn propose<D: Disk>(
     alloc: Global,
     world: &mut World<D>,
     w: u32,
-    leader: u32,
-    connector: Name,
-) -> Result<Tick, WorldFault>
+    connector: &Name,
+) -> Result<OpDone, WorldFault>
     requires there { w < length world.old.state.rows }
-    requires live { (row_of w world.old.state).live ≡ true }
-    requires turn { IsTurn (turn.Propose leader connector false) w world.old.state }
-    ensures { Acts D.Disk (tick w) world.old world.new result }
+    requires may { MayPropose w connector.now world.old.state }
+    ensures { Acts D.Disk (proposes w connector.now) world.old world.new result }
 {
     world.is_safe();
-    match task_writing(alloc, world.cluster(), w, &connector) {
-        Ok(writing) => write_tasks(world, w, leader, connector, writing),
+    match proposal_for(alloc, world.cluster().config_state(), connector) {
+        Ok(proposal) => write_proposal(world, w, connector, proposal),
         Err(AllocError) => Err(WorldFault::Memory),
     }
 }
 
-/// It writes the record that commits them, and tells its offset.
-pub(crate) fn commit<D: Disk>(
-    alloc: Global,
+// These records are written.
+fn write_proposal<D: Disk>(
     world: &mut World<D>,
-    w: u32,
-    leader: u32,
-    connector: Name,
-) -> Result<Tick, WorldFault>
-    requires there { w < length world.old.state.rows }
-    requires live { (row_of w world.old.state).live ≡ true }
-    requires turn { IsTurn (turn.Propose leader connector true) w world.old.state }
-    ensures { Acts D.Disk (tick w) world.old world.new result }
-{
-    world.is_safe();
-    match commit_writing(alloc, world.cluster(), w, &connector) {
-        Ok(writing) => write_commit(world, w, leader, connector, writing),
-        Err(AllocError) => Err(WorldFault::Memory),
-    }
-}
-
-// These records are written, one for each task.
-fn write_tasks<D: Disk>(
-    world: &mut World<D>,
-    w: u32,
-    leader: u32,
-    connector: Name,
-    writing: Writing,
-) -> Result<Tick, WorldFault>
-    requires there { w < length world.old.state.rows }
-    requires live { (row_of w world.old.state).live ≡ true }
-    requires turn { IsTurn (turn.Propose leader connector false) w world.old.state }
-    requires records { writing.records.items ≡
-        task_records connector (proposal_of connector (seen w world.old.state)) }
-    requires count { writing.count ≡ length (proposal_of connector (seen w world.old.state)) }
-    ensures { Acts D.Disk (tick w) world.old world.new result }
-{
-    world.is_safe();
-    proposals_may_be_written();
-    match world.append_config(leader, writing.records.as_slice()) {
-        Ok(_) => Ok(Tick::Propose(connector, writing.count)),
-        Err(fault) => unless_lost(fault),
-    }
-}
-
-// The record that commits them is written.
-fn write_commit<D: Disk>(
-    world: &mut World<D>,
-    w: u32,
-    leader: u32,
-    connector: Name,
-    writing: Writing,
-) -> Result<Tick, WorldFault>
-    requires there { w < length world.old.state.rows }
-    requires live { (row_of w world.old.state).live ≡ true }
-    requires turn { IsTurn (turn.Propose leader connector true) w world.old.state }
-    requires records { writing.records.items ≡
-        commit_records connector (length (proposal_of connector (seen w world.old.state))) }
-    ensures { Acts D.Disk (tick w) world.old world.new result }
-{
-    world.is_safe();
-    proposals_may_be_written();
-    match world.append_config(leader, writing.records.as_slice()) {
-        Ok(offset) => Ok(Tick::Commit(connector, offset)),
-        Err(fault) => unless_lost(fault),
-    }
-}
-
-// The records of the tasks that a connector's config asks for, as a worker has read it. There are never 2^32.
-fn task_writing(
-    alloc: Global,
-    cluster: &Cluster,
     w: u32,
     connector: &Name,
-) -> Result<Writing, AllocError>
-    requires there { w < length cluster.now.state.rows }
-    requires allowed { AreAllowedConfigs [] cluster.now.state.configs }
-    ensures records { IfOk result (λ writing. writing.records.items ≡
-        task_records connector.now (proposal_of connector.now (seen w cluster.now.state))) }
-    ensures count { IfOk result (λ writing. writing.count ≡
-        length (proposal_of connector.now (seen w cluster.now.state))) }
+    proposal: Proposal,
+) -> Result<OpDone, WorldFault>
+    requires there { w < length world.old.state.rows }
+    requires may { MayPropose w connector.now world.old.state }
+    requires records { proposal.records.items ≡ proposal_records world.old.state.configs connector.now }
+    requires count { proposal.count ≡ length (proposal_of connector.now world.old.state.configs) }
+    requires commits { proposal.commits ≡ are_deferred world.old.state.configs connector.now }
+    ensures { Acts D.Disk (proposes w connector.now) world.old world.new result }
 {
-    let proposal = proposal_of(alloc, cluster.config_of(w), connector)?;
-    let Ok(count) = u32::try_from(proposal.len()) else {
-        return Err(AllocError);
-    };
-    let records = task_records(alloc, connector, proposal.as_slice())?;
-    Ok(Writing { records, count })
+    world.is_safe();
+    is_name(connector);
+    match world.append_config(w, proposal.records.as_slice()) {
+        Ok(offset) => Ok(told(&proposal, offset)),
+        Err(fault) => Err(fault),
+    }
 }
 
-// The record that commits them.
-fn commit_writing(
-    alloc: Global,
-    cluster: &Cluster,
-    w: u32,
-    connector: &Name,
-) -> Result<Writing, AllocError>
-    requires there { w < length cluster.now.state.rows }
-    requires allowed { AreAllowedConfigs [] cluster.now.state.configs }
-    ensures { IfOk result (λ writing. writing.records.items ≡
-        commit_records connector.now (length (proposal_of connector.now (seen w cluster.now.state)))) }
+// What is told of it.
+fn told(proposal: &Proposal, offset: u64) -> OpDone
+    ensures { result ≡ (if proposal.now.commits then done.Committed offset else done.Proposed proposal.now.count) }
 {
-    let proposal = proposal_of(alloc, cluster.config_of(w), connector)?;
-    let Ok(count) = u32::try_from(proposal.len()) else {
+    if proposal.commits {
+        OpDone::Committed(offset)
+    } else {
+        OpDone::Proposed(proposal.count)
+    }
+}
+
+// What is written of the tasks that a connector's config asks for. There are never 2^32.
+fn proposal_for(
+    alloc: Global,
+    configs: &ConfigState,
+    connector: &Name,
+) -> Result<Proposal, AllocError>
+    requires { AreFaultless configs.now }
+    ensures records { IfOk result (λ proposal. proposal.records.items ≡ proposal_records configs.now connector.now) }
+    ensures count { IfOk result (λ proposal. proposal.count ≡ length (proposal_of connector.now configs.now)) }
+    ensures commits { IfOk result (λ proposal. proposal.commits ≡ are_deferred configs.now connector.now) }
+{
+    let tasks = proposal_of(alloc, configs, connector)?;
+    let Ok(count) = u32::try_from(tasks.len()) else {
         return Err(AllocError);
     };
-    let records = commit_records(alloc, connector, count)?;
-    Ok(Writing { records, count })
+    let commits = are_deferred(alloc, configs, connector)?;
+    let records = records_for(alloc, connector, tasks.as_slice(), count, commits)?;
+    Ok(Proposal {
+        records,
+        count,
+        commits,
+    })
+}
+
+// The records of these tasks, or the one that commits them.
+fn records_for(
+    alloc: Global,
+    connector: &Name,
+    tasks: &[Props],
+    count: u32,
+    commits: bool,
+) -> Result<Vec<(ConfigKey, Option<ConfigValue>)>, AllocError>
+    requires { length tasks.now ≤ 2 ^ 32 - 1 }
+    ensures { IfOk result (λ records. records.items ≡
+        (if commits then commit_records connector.now count else task_records connector.now tasks.now)) }
+{
+    if commits {
+        commit_records(alloc, connector, count)
+    } else {
+        task_records(alloc, connector, tasks)
+    }
+}
+
+// The law of every name. It does nothing at run time.
+fn is_name(name: &Name)
+    ensures { IsName name.now }
+{
+    let _ = name.as_bytes();
 }

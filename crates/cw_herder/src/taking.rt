@@ -5,11 +5,9 @@ ghost use Rattle.cw_model.specs.Tick.{tick};
 ghost use Rattle.cw_ticks.specs.Turns.{IsTurn};
 ghost use Rattle.cw_world.specs.World.{Acts};
 
-use crate::fencing::{fence_producer, write_fence};
 use crate::items::{report, start, stop};
-use crate::leading::lead;
-use crate::marking::mark;
-use crate::proposing::{commit, propose};
+use crate::leading::ask;
+use crate::op::Op;
 use crate::reading::read;
 use crate::rounds::{close, join, plan, sync};
 use cw_disk::Disk;
@@ -30,6 +28,7 @@ pub(crate) fn take<D: Disk>(
     requires turn { IsTurn turn w world.old.state }
     ensures { Acts D.Disk (tick w) world.old world.new result }
 {
+    world.is_safe();
     match turn {
         Turn::Read => read(world, w),
         Turn::Stop { item, number } => stop(world, w, item, number),
@@ -37,26 +36,14 @@ pub(crate) fn take<D: Disk>(
         Turn::Close => close(world, w),
         Turn::Plan => plan(world, w),
         Turn::Sync => sync(world, w),
-        Turn::Lead => lead(world, w),
+        Turn::Lead => ask(alloc, world, w, w, Op::Lead),
         Turn::Propose {
             leader,
             connector,
-            commits: true,
-        } => commit(alloc, world, w, leader, connector),
-        Turn::Propose {
-            leader,
-            connector,
-            commits: false,
-        } => propose(alloc, world, w, leader, connector),
-        Turn::Fence {
-            connector,
-            producer: true,
-        } => fence_producer(world, w, connector),
-        Turn::Fence {
-            connector,
-            producer: false,
-        } => write_fence(world, w, connector),
-        Turn::Mark(log) => mark(world, w, log),
+            ..
+        } => ask(alloc, world, w, leader, Op::Propose(connector)),
+        Turn::Fence { connector, .. } => ask(alloc, world, w, w, Op::Fence(connector)),
+        Turn::Mark(_) => ask(alloc, world, w, w, Op::Mark),
         Turn::Start(item) => start(world, w, item),
         Turn::Report(item, state) => report(world, w, item, state),
         Turn::Idle => Ok(Tick::Idle),

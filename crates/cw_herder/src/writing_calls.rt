@@ -4,23 +4,22 @@ ghost use Rattle.cw_types.specs.declared.logs.LogName.TheVariants as log;
 ghost use Rattle.cw_model.specs.Lookups.{row_of};
 ghost use Rattle.cw_model.specs.Ready.{ready};
 ghost use Rattle.cw_rest.specs.Calls.{writes_configs, writes_offsets, deed_of};
-ghost use Rattle.cw_rest.specs.Replies.{values_of, offsets_of, connector_set};
+ghost use Rattle.cw_rest.specs.Replies.{connector_set};
 ghost use Rattle.cw_ops.specs.Answering.{AreAnswers};
-ghost use Rattle.cw_ops.specs.Requests.{seen_now};
 ghost use Rattle.cw_world.specs.World.{DoesOrWants};
-ghost use Rattle.cw_herder.specs.Submits.{Submits, told_refusal, reads_back};
+ghost use Rattle.cw_herder.specs.Operations.{op_event};
+ghost use Rattle.cw_herder.specs.Submits.{Submits, IsOpOf, IsWriteTo, log_of, told_refusal, reads_back};
 
 use crate::answering_calls::answer;
+use crate::calls::{configs_op, offsets_op};
+use crate::op::Op;
+use crate::operations::op_step;
 use cw_disk::Disk;
-use cw_keys::{ConfigKey, ConfigValue};
 use cw_laws::calls_write_what_may_be_written;
 use cw_model::WorldFault;
-use cw_ops::{
-    Answering, Answers, answers_to, feeds_are_named, is_of_name, offsets_of, seen_now, values_of,
-};
+use cw_ops::{Answering, Answers, answers_to, feeds_are_named, is_of_name, seen_now};
 use cw_route::{Call, Reply};
 use cw_ticks::ready;
-use cw_txn::SetOffset;
 use cw_types::{LogName, Name};
 use cw_world::World;
 use std::alloc::{AllocError, Global};
@@ -43,13 +42,13 @@ pub(crate) fn write_configs<D: Disk>(
     };
     match answers_to(alloc, world.cluster(), w, call, LogName::Config) {
         Ok(Answering::Refused(reply)) => Ok(reply),
-        Ok(Answering::Writes(answers)) => write_values(alloc, world, w, leader, call, answers),
+        Ok(Answering::Writes(answers)) => configure(alloc, world, w, leader, call, answers),
         Err(AllocError) => Err(WorldFault::Memory),
     }
 }
 
-// It writes its values through a leader.
-fn write_values<D: Disk>(
+// Its leader makes the operation that it asks for.
+fn configure<D: Disk>(
     alloc: Global,
     world: &mut World<D>,
     w: u32,
@@ -65,37 +64,14 @@ fn write_values<D: Disk>(
     requires answers { AreAnswers world.old.setting w call.now log.Config world.old.state answers }
     ensures { Submits D.Disk w call.now world.old world.new result }
 {
-    match values_of(alloc, call) {
-        Ok(values) => append_values(world, w, leader, call, answers, values.as_slice()),
-        Err(AllocError) => Err(WorldFault::Memory),
-    }
-}
-
-// These are written.
-fn append_values<D: Disk>(
-    world: &mut World<D>,
-    w: u32,
-    leader: u32,
-    call: &Call,
-    answers: Answers,
-    values: &[(ConfigKey, Option<ConfigValue>)],
-) -> Result<Reply, WorldFault>
-    requires there { w < length world.old.state.rows }
-    requires alive { world.old.state.closed ≡ None }
-    requires live { (row_of w world.old.state).live ≡ true }
-    requires deed { deed_of call.now ≡ writes_configs }
-    requires through { ready w world.old.state ≡ Some leader }
-    requires answers { AreAnswers world.old.setting w call.now log.Config world.old.state answers }
-    requires values { values.now ≡ values_of call.now }
-    ensures { Submits D.Disk w call.now world.old world.new result }
-{
     world.is_safe();
     is_of_name(call);
     feeds_are_named(world.cluster().feeds().names());
     calls_write_what_may_be_written();
-    match world.append_config(leader, values) {
-        Ok(_) => read_back(world, w, answers.done),
-        Err(fault) => refusal_of(answers, fault),
+    match configs_op(alloc, call) {
+        Ok(Some(op)) => make(alloc, world, w, leader, call, answers, &op),
+        Ok(None) => unreachable!(),
+        Err(AllocError) => Err(WorldFault::Memory),
     }
 }
 
@@ -119,13 +95,15 @@ pub(crate) fn write_offsets<D: Disk>(
     };
     match answers_to(alloc, world.cluster(), w, call, LogName::Txn) {
         Ok(Answering::Refused(reply)) => Ok(reply),
-        Ok(Answering::Writes(answers)) => { set_list(alloc, world, w, leader, call, name, answers) }
+        Ok(Answering::Writes(answers)) => {
+            set_offsets(alloc, world, w, leader, call, name, answers)
+        }
         Err(AllocError) => Err(WorldFault::Memory),
     }
 }
 
-// It sets its list through a leader.
-fn set_list<D: Disk>(
+// Its leader sets them.
+fn set_offsets<D: Disk>(
     alloc: Global,
     world: &mut World<D>,
     w: u32,
@@ -143,37 +121,36 @@ fn set_list<D: Disk>(
     requires answers { AreAnswers world.old.setting w call.now log.Txn world.old.state answers }
     ensures { Submits D.Disk w call.now world.old world.new result }
 {
+    world.is_safe();
+    calls_write_what_may_be_written();
     let seen = seen_now(world.cluster(), w, call, true);
-    match offsets_of(alloc, &seen, call) {
-        Ok(list) => set_offsets(world, w, leader, call, name, answers, list.as_slice()),
+    match offsets_op(alloc, &seen, call, name) {
+        Ok(op) => make(alloc, world, w, leader, call, answers, &op),
         Err(AllocError) => Err(WorldFault::Memory),
     }
 }
 
-// These offsets are set.
-fn set_offsets<D: Disk>(
+// The leader makes the operation, and the worker reads what was written.
+fn make<D: Disk>(
+    alloc: Global,
     world: &mut World<D>,
     w: u32,
     leader: u32,
     call: &Call,
-    name: &Name,
     answers: Answers,
-    list: &[SetOffset],
+    op: &Op,
 ) -> Result<Reply, WorldFault>
     requires there { w < length world.old.state.rows }
     requires alive { world.old.state.closed ≡ None }
     requires live { (row_of w world.old.state).live ≡ true }
-    requires deed { deed_of call.now ≡ writes_offsets }
-    requires name { name.now ≡ connector_set call.now }
     requires through { ready w world.old.state ≡ Some leader }
-    requires answers { AreAnswers world.old.setting w call.now log.Txn world.old.state answers }
-    requires list { list.now ≡ offsets_of (seen_now world.old.setting w call.now world.old.state) call.now }
+    requires asked { IsOpOf world.old.setting w call.now leader op.now world.old.state }
+    requires answers { AreAnswers world.old.setting w call.now (log_of op.now) world.old.state answers }
+    requires writes { IsWriteTo (log_of op.now) (op_event leader op.now world.old.state) world.old.state }
     ensures { Submits D.Disk w call.now world.old world.new result }
 {
-    world.is_safe();
-    calls_write_what_may_be_written();
-    match world.set_offsets(leader, name, list) {
-        Ok(()) => read_back(world, w, answers.done),
+    match op_step(alloc, world, leader, op) {
+        Ok(_) => read_back(world, w, answers.done),
         Err(fault) => refusal_of(answers, fault),
     }
 }

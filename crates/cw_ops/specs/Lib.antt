@@ -1,4 +1,3 @@
 pub mod Requests
-pub mod Named
 pub mod Answering
 pub mod Faults
