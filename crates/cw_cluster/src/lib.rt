@@ -3,10 +3,11 @@
 //! Its definitions say the run of a script as a function of the cluster's state, the feeds and the lines: the answers,
 //! byte for byte, and the state behind each. Its public functions carry worked cases and laws of that run, each as a
 //! contract: every state of a run is safe.
-//! Of the code that is to play a script it has, inside the crate and called by nothing yet, what settles a cluster, and
-//! what plays all other directives over a world.
-//! It stands on the world and the steps over it, on the cluster's model and its laws, on the calls of the REST API and
-//! on the language of scripts.
+//! `drive` plays a script over a world and an outlet: its contract says, at each end, which answers were written, which
+//! state is left, what a stop leaves of the eight disks, and what the outlet's files grew by. Where a disk fails in a
+//! line, a stop leaves what stood before its event or behind it, and both are states of a run.
+//! It stands on the world and the steps over it, on the cluster's model and its laws, on the calls of the REST API, on
+//! what opens logs again, and on the language of scripts and its lines.
 #![tactic(auto)]
 
 mod answers;
