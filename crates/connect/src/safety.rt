@@ -4,6 +4,7 @@ ghost use Rattle.cw_lines.specs.Players.{player_of};
 ghost use Rattle.cw_lines.specs.Plays.{behind_lines};
 ghost use Rattle.cw_log.specs.declared.fault.Harm.{Harm};
 ghost use Rattle.cw_model.specs.Facts.{AreFacts};
+ghost use Rattle.cw_model.specs.Grows.{Grows};
 ghost use Rattle.cw_model.specs.Journal.{IsTrueJournal};
 ghost use Rattle.cw_model.specs.Reopening.{reopened, stored_of};
 ghost use Rattle.cw_model.specs.Safe.{IsSafe};
@@ -39,6 +40,9 @@ pub(crate) fn runs_are_safe()
     ensures journal { (setting : Setting) (ran : Ran) (script : List ℕ) (lines : ℕ) → HaveNames setting →
         AreFacts setting ran.cluster →
         IsTrueJournal setting (behind_lines (player_of drive_rules setting) lines script ran).store.cluster }
+    ensures grows { (setting : Setting) (ran : Ran) (script : List ℕ) (lines : ℕ) → HaveNames setting →
+        AreFacts setting ran.cluster →
+        Grows ran.cluster (behind_lines (player_of drive_rules setting) lines script ran).store.cluster }
     ensures amid { (setting : Setting) (number : ℕ) (line : List ℕ) (ran left : Ran) → HaveNames setting →
         AreFacts setting ran.cluster → drive_rules.amid setting number line ran left →
         IsSafe setting left.cluster }
