@@ -7,6 +7,7 @@ mod configs;
 mod coordinator;
 mod data_log;
 mod delays;
+mod fault_replies;
 mod feeds;
 mod group;
 mod names;
@@ -88,6 +89,7 @@ fn make_other_call(
         "delay" => delays::delay(fields, answer),
         "field" => spellings::read(alloc, fields, answer),
         "body" => bodies::read(alloc, fields, answer),
+        "fault" => fault_replies::reply_to(alloc, fields, answer),
         _ => Err(Fault::NoCall),
     }
 }

@@ -1,29 +1,17 @@
 //! `connect`: Kafka Connect's distributed mode over logs on files.
 //!
-//! The public call `connect` carries the theorem of the whole program: over the cluster for which its disks stand and
-//! the lines that it reads, its output is their answers, every state on the way is safe, what a stop leaves of the
-//! disks stands for the state that is left, or where a disk failed for that before or behind the event in flight, and
-//! damaged files are refused at their first harm.
-//! It stands on cw_words, cw_feed, cw_open and cw_cluster; `main` makes the adapters and exits with the status's number.
+//! `main` makes the adapters over the standard streams and over the folders `connect-data`, `feeds` and `out`, and makes
+//! the top call, whose contract is the theorem of the whole program; it exits with the number of the call's status.
+//! It stands on cw_connect, and on the crates of the adapters.
 #![tactic(auto)]
 
-mod ending;
-mod opening;
-mod safety;
-mod status;
-#[cfg(test)]
-mod tests;
-mod top;
-
+use cw_connect::{Status, connect, exit_number, status_of_fault};
 use cw_disk::Disks;
 use cw_io::{FolderOutlet, FolderShelf, ReaderSource, WriterSink};
-pub use ending::{exit_number, status_of_fault};
-pub use status::Status;
 use std::env::Env;
 use std::fs::{File, Files};
 use std::process::ExitCode;
 use std::{env, io};
-pub use top::{Outcome, connect};
 
 fn main(rt: HostRuntime) -> ExitCode {
     // Where a standard stream is closed, the next file that is opened stands in its place: not one of a log.

@@ -14,8 +14,6 @@ mod planning;
 mod seat;
 mod share;
 mod standing;
-#[cfg(test)]
-mod tests;
 
 pub use delay::Delay;
 pub use items::{ItemSet, Kind};

@@ -13,8 +13,6 @@ mod input;
 mod mark;
 mod numbers;
 mod reader;
-#[cfg(test)]
-mod tests;
 mod writer;
 mod writing;
 

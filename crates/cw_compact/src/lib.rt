@@ -20,8 +20,6 @@ mod left;
 mod offsets;
 mod outcomes;
 mod stored;
-#[cfg(test)]
-mod tests;
 
 pub use bodies::{read_frames, write_frames};
 pub use copies::{copy_entries, copy_offset, copy_txn, list_frames, list_offsets, list_txn};

@@ -16,8 +16,6 @@ mod reserved;
 mod rows;
 mod state;
 mod tables;
-#[cfg(test)]
-mod tests;
 
 pub use fault::ApplyFault;
 pub use laws::compacted_configs_say_the_same;

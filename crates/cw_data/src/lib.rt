@@ -9,8 +9,6 @@ mod body;
 mod entry;
 mod state;
 mod tables;
-#[cfg(test)]
-mod tests;
 mod topic;
 mod unmarked;
 

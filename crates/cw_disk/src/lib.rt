@@ -10,8 +10,6 @@ mod disks;
 mod file;
 mod held;
 mod memory;
-#[cfg(test)]
-mod tests;
 
 pub use device::{Disk, Failed, Memory};
 pub use disks::Disks;

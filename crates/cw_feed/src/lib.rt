@@ -8,8 +8,6 @@
 mod cut;
 mod feeds;
 mod laws;
-#[cfg(test)]
-mod tests;
 mod yields;
 
 pub use cut::CutAnswer;

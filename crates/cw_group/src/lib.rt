@@ -11,8 +11,6 @@ mod answers;
 mod circle;
 mod group;
 mod member;
-#[cfg(test)]
-mod tests;
 
 pub use answers::{GroupFault, Phase, Synced};
 pub use circle::Circle;

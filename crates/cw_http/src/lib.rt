@@ -19,6 +19,3 @@ pub use laws::requests_are_one;
 pub use reading::read_request;
 pub use replying::{refusal, write_reply};
 pub use request::{HttpFault, Request};
-
-#[cfg(test)]
-mod tests;

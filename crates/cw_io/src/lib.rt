@@ -35,6 +35,3 @@ pub use shelf::{Shelf, ShelfFault};
 pub use standard::{ReaderSource, WriterSink};
 pub use tcp::TcpLink;
 pub use traits::{Failed, Sink, Source, write_all};
-
-#[cfg(test)]
-mod tests;

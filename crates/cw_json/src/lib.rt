@@ -16,6 +16,3 @@ pub use props::Props;
 pub use read::{props_of, read_props, read_value};
 pub use text::Text;
 pub use write::{text_of, texts_are_read_again, value_of};
-
-#[cfg(test)]
-mod tests;

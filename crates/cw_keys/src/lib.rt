@@ -32,6 +32,3 @@ pub use state::State;
 pub use status::{StatusValue, read_status, write_status};
 pub use target::Target;
 pub use trace::{fenced_trace, long_line_trace};
-
-#[cfg(test)]
-mod tests;

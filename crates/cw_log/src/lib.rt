@@ -18,8 +18,6 @@ mod make;
 mod open;
 mod place;
 mod scan;
-#[cfg(test)]
-mod tests;
 mod topic;
 mod topic_body_log;
 mod visitor;

@@ -13,8 +13,6 @@ mod call;
 mod laws;
 mod state;
 mod tables;
-#[cfg(test)]
-mod tests;
 mod under;
 
 pub use body::{OffsetEntry, read_offsets, write_offsets};

@@ -33,8 +33,6 @@ mod spans;
 mod stamps;
 mod statuses;
 mod tags;
-#[cfg(test)]
-mod tests;
 mod transactions;
 mod waiting;
 

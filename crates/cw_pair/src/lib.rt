@@ -11,8 +11,6 @@ mod law;
 mod open;
 mod pair;
 mod pair_body_log;
-#[cfg(test)]
-mod tests;
 mod two;
 
 pub use cw_log::CompactFault;

@@ -21,6 +21,3 @@ pub use class::Class;
 pub use configs::task_configs;
 pub use fault::PluginFault;
 pub use task::{TaskSpec, task_of};
-
-#[cfg(test)]
-mod tests;

@@ -23,6 +23,3 @@ pub use names::text_of_name;
 pub use offset::{parts_seen, sets_in};
 pub use replies::reply;
 pub use view::View;
-
-#[cfg(test)]
-mod tests;

@@ -18,6 +18,3 @@ pub use laws::{calls_hold_names, pages_are_called, table_reads};
 pub use page::Page;
 pub use reply::Reply;
 pub use routing::route;
-
-#[cfg(test)]
-mod tests;

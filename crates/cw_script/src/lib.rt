@@ -16,6 +16,3 @@ pub use directive::{Directive, PartEnd};
 pub use fault::{LineKind, ScriptFault};
 pub use read::read_line;
 pub use spell::lines_are_directives;
-
-#[cfg(test)]
-mod tests;

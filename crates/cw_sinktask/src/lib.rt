@@ -20,6 +20,3 @@ pub use fault::SinkFault;
 pub use gathering::gather;
 pub use pouring::pour;
 pub use stepping::step;
-
-#[cfg(test)]
-mod tests;

@@ -10,8 +10,6 @@ mod laws;
 mod record;
 mod state;
 mod table;
-#[cfg(test)]
-mod tests;
 
 pub use laws::compacted_statuses_say_the_same;
 pub use record::StatusRecord;

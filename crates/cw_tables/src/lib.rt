@@ -5,7 +5,5 @@
 #![tactic(auto)]
 
 mod rows;
-#[cfg(test)]
-mod tests;
 
 pub use rows::{has_row, make_row, set_row, value_at};

@@ -15,8 +15,6 @@ mod history;
 mod parts;
 mod replay;
 mod tables;
-#[cfg(test)]
-mod tests;
 
 pub use body::{BodyFault, read_entries, write_entries};
 pub use coordinator::{Coordinator, TxnFault, lists_stay_allowed, raw_transactions_are_new};

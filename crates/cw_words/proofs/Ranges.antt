@@ -1,5 +1,5 @@
 -- The numbers of a command are in their ranges.
-use Rattle.std.proofs.Common.{◌≡◌, ◌≤◌, ◌&&◌, ◌∷◌, ℕ, Bool, true, false, refl, List, [], Option, Some, None, Result, Ok, Err, IfOk, IfSome, cond, option_map, subst, codes}
+use Rattle.std.proofs.Common.{◌≡◌, ◌≤◌, ◌&&◌, ◌∷◌, ◌^◌, ◌-◌, ℕ, Bool, true, false, refl, List, [], Option, Some, None, Result, Ok, Err, IfOk, IfSome, cond, option_map, subst, codes}
 use Rattle.std.specs.Prelude.{nat_le, option_and_then}
 use Rattle.std.specs.Str.{bytes_eq}
 use Rattle.std.proofs.lemmas.Bool.{leb-true}
@@ -9,7 +9,7 @@ use Rattle.cw_types.specs.Decimal.{number_of}
 use Rattle.cw_words.specs.Asked.{IsInRange, command_in, command_of, most_delay, name_in, number_between, number_in, options_of, unless_fault}
 use Rattle.cw_words.specs.Program.{program}
 use Rattle.cw_words.specs.declared.command.Command.{Command}
-use Rattle.cw_words.specs.declared.command.Command.TheVariants.{Drive}
+use Rattle.cw_words.specs.declared.command.Command.TheVariants.{Drive, Audit}
 use Rattle.cw_words.specs.declared.command.Options.{Options}
 use Rattle.cw_words.specs.declared.command.WordsFault.{WordsFault}
 
@@ -39,16 +39,25 @@ with_group : (g : Option (List ℕ)) (d : Option ℕ) → IfSome d (λ n. n ≤ 
 with_group None d h = tt
 with_group (Some group) d h = with_delay group d h
 
-driven : (b : Bool) (o : Option Options) → IfSome o (λ p. p.delay ≤ most_delay) → IfSome (cond b (option_map Drive o) None) IsInRange
-driven false o h = tt
-driven true None h = tt
-driven true (Some options) h = h
+driven : (b : Bool) (o : Option Options) (rest : Option Command) → IfSome o (λ p. p.delay ≤ most_delay) → IfSome rest IsInRange → IfSome (cond b (option_map Drive o) rest) IsInRange
+driven false o rest h r = r
+driven true None rest h r = tt
+driven true (Some options) rest h r = h
+
+audited : (b : Bool) (o : Option Options) (rest : Option Command) → IfSome o (λ p. p.delay ≤ most_delay) → IfSome rest IsInRange → IfSome (cond b (option_map Audit o) rest) IsInRange
+audited false o rest h r = r
+audited true None rest h r = tt
+audited true (Some options) rest h r = h
+
+in_range_options : (rows : List Row) → IfSome (options_of rows) (λ o. o.delay ≤ most_delay)
+in_range_options rows = with_group (name_in (codes "group") rows) (number_in 0 most_delay (codes "delay") rows)
+    (found_between 0 most_delay (first_of (codes "delay") rows))
 
 named : (o : Option (Text × List Row)) → IfSome (command_in o) IsInRange
 named None = tt
-named (Some p) = driven (bytes_eq p.0 (codes "drive")) (options_of p.1)
-    (with_group (name_in (codes "group") p.1) (number_in 0 most_delay (codes "delay") p.1)
-    (found_between 0 most_delay (first_of (codes "delay") p.1)))
+named (Some p) = let options = in_range_options p.1 in
+    driven (bytes_eq p.0 (codes "drive")) (options_of p.1) _ options
+    (audited (bytes_eq p.0 (codes "audit")) (options_of p.1) None options tt)
 
 unless : (ks : Kinds) (o : Option Command) → IfSome o IsInRange → IfSome (unless_fault ks o) IsInRange
 unless [] o h = h

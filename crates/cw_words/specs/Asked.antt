@@ -8,7 +8,7 @@ use Rattle.cw_types.specs.Decimal.{number_of}
 use Rattle.cw_types.specs.Name.{name_of}
 use Rattle.cw_words.specs.Program.{program}
 use Rattle.cw_words.specs.declared.command.Command.{Command}
-use Rattle.cw_words.specs.declared.command.Command.TheVariants.{Drive}
+use Rattle.cw_words.specs.declared.command.Command.TheVariants.{Drive, Audit}
 use Rattle.cw_words.specs.declared.command.Options.{Options}
 use Rattle.cw_words.specs.declared.command.WordsFault.{WordsFault}
 use Rattle.cw_words.specs.declared.command.WordsFault.TheVariants.{Usage}
@@ -36,7 +36,8 @@ options_of rows = option_and_then (λ group. option_map (λ delay. record { grou
 
 -- the command of a subcommand's name and of the values that were found for it
 abbrev pub command_named : Text × List Row → Option Command
-command_named p = if bytes_eq p.0 (codes "drive") then option_map Drive (options_of p.1) else None
+command_named p = if bytes_eq p.0 (codes "drive") then option_map Drive (options_of p.1)
+    else if bytes_eq p.0 (codes "audit") then option_map Audit (options_of p.1) else None
 
 -- the command of the subcommand that was found
 abbrev pub command_in : Option (Text × List Row) → Option Command
@@ -54,6 +55,7 @@ command_of words = unless_fault (fault_of program words) (command_in (subcommand
 -- the numbers of a command are in their ranges
 abbrev pub IsInRange : Command → Type 0
 IsInRange (Drive options) = options.delay ≤ most_delay
+IsInRange (Audit options) = options.delay ≤ most_delay
 
 -- what is asked for, or the fault of words that ask for nothing
 abbrev pub or_usage : {A : Type 0} → Option A → Result A WordsFault
@@ -63,3 +65,7 @@ or_usage None = Err Usage
 -- `drive` with this group and this delay
 abbrev pub drive_with : Text → ℕ → Option Command
 drive_with group delay = Some (Drive (record { group = group; delay = delay }))
+
+-- `audit` with this group and this delay
+abbrev pub audit_with : Text → ℕ → Option Command
+audit_with group delay = Some (Audit (record { group = group; delay = delay }))

@@ -16,6 +16,9 @@ with_shared a = with_rule (with_rule a (option (codes "group") (codes "connect-c
 abbrev pub drive : App
 drive = with_shared (new_app (codes "drive"))
 
+abbrev pub audit : App
+audit = with_shared (new_app (codes "audit"))
+
 -- the words are those behind the program's name
 abbrev pub named : App
 named = record (new_app (codes "connect")) {
@@ -23,4 +26,4 @@ named = record (new_app (codes "connect")) {
 }
 
 abbrev pub program : App
-program = with_subcommand named drive.top
+program = with_subcommand (with_subcommand named drive.top) audit.top

@@ -20,6 +20,8 @@ pub struct Options {
 pub enum Command {
     /// Plays the directives of the standard input.
     Drive(Options),
+    /// Says what the logs of a stopped cluster hold.
+    Audit(Options),
 }
 
 /// Why words give no command.

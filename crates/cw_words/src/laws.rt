@@ -1,6 +1,6 @@
 //! What the reading of words comes to at words that are written out.
 ghost use Rattle.std.specs.Prelude.{◌≡◌, None, [], ◌∷◌, codes};
-ghost use Rattle.cw_words.specs.Asked.{command_of, drive_with};
+ghost use Rattle.cw_words.specs.Asked.{audit_with, command_of, drive_with};
 
 /// The law of the program's words: options have defaults and come in any order, with `=` or, where the value doesn't
 /// begin with `-`, a word of its own; and what is more, missing, out of range or a question for help is no command.
@@ -12,6 +12,7 @@ pub fn words_are_read()
         drive_with (codes "connect-cluster") 7 }
     ensures minus { command_of (codes "drive" ∷ codes "--group=-g" ∷ []) ≡ drive_with (codes "-g") 300000 }
     ensures minus_apart { command_of (codes "drive" ∷ codes "--group" ∷ codes "-g" ∷ []) ≡ None }
+    ensures audit { command_of (codes "audit" ∷ codes "--group" ∷ codes "g" ∷ []) ≡ audit_with (codes "g") 300000 }
     ensures nothing { command_of [] ≡ None }
     ensures unknown { command_of (codes "run" ∷ []) ≡ None }
     ensures more { command_of (codes "drive" ∷ codes "more" ∷ []) ≡ None }

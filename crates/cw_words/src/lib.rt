@@ -14,6 +14,3 @@ mod reading;
 pub use command::{Command, Options, WordsFault};
 pub use laws::words_are_read;
 pub use reading::read_words;
-
-#[cfg(test)]
-mod tests;

@@ -1,7 +1,7 @@
 //! The definition that `clap` is given of the program.
 ghost use Rattle.std.specs.Prelude.{◌≡◌, IfOk};
 ghost use Rattle.clap.specs.Words.{app_of, rule_of};
-ghost use Rattle.cw_words.specs.Program.{drive, named, option, program, with_shared};
+ghost use Rattle.cw_words.specs.Program.{audit, drive, named, option, program, with_shared};
 
 use clap::{Arg, Command};
 use std::alloc::{AllocError, Global};
@@ -28,6 +28,12 @@ fn drive<'a>(alloc: Global) -> Result<Command<'a>, AllocError>
     with_shared(alloc, Command::new(alloc, "drive"))
 }
 
+fn audit<'a>(alloc: Global) -> Result<Command<'a>, AllocError>
+    ensures { IfOk result (λ r. app_of r ≡ audit) }
+{
+    with_shared(alloc, Command::new(alloc, "audit"))
+}
+
 fn named<'a>(alloc: Global) -> Command<'a>
     ensures { app_of result ≡ named }
 {
@@ -40,5 +46,7 @@ fn named<'a>(alloc: Global) -> Command<'a>
 pub(crate) fn program<'a>(alloc: Global) -> Result<Command<'a>, AllocError>
     ensures { IfOk result (λ r. app_of r ≡ program) }
 {
-    named(alloc).subcommand(drive(alloc)?)
+    named(alloc)
+        .subcommand(drive(alloc)?)?
+        .subcommand(audit(alloc)?)
 }

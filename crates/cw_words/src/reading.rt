@@ -71,6 +71,9 @@ fn command_in(alloc: Global, matches: &ArgMatches<'_>) -> Result<Command, WordsF
     if name == "drive" {
         return Ok(Command::Drive(options_in(alloc, found)?));
     }
+    if name == "audit" {
+        return Ok(Command::Audit(options_in(alloc, found)?));
+    }
     Err(WordsFault::Usage)
 }
 

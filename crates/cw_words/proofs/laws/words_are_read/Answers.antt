@@ -69,3 +69,7 @@ returns-clause-minus c = refl
 pub returns-clause-minus_apart : goal.returns-clause-minus_apart
 unfolding clap_on_literals
 returns-clause-minus_apart c = refl
+
+pub returns-clause-audit : goal.returns-clause-audit
+unfolding clap_on_literals
+returns-clause-audit c = refl

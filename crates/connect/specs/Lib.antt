@@ -1,4 +1,0 @@
-pub mod Statuses
-pub mod Opening
-pub mod Outcomes
-pub mod Making

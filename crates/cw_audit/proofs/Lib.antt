@@ -1,0 +1,7 @@
+pub mod Risen
+pub mod Walks
+pub mod Members
+pub mod ListedLemmas
+pub mod IdTexts
+pub mod Ends
+pub mod Sizes

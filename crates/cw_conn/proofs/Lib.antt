@@ -1,0 +1,4 @@
+pub mod Texts
+pub mod Behind
+pub mod Talks
+pub mod Lasts

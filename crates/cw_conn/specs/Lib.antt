@@ -1,0 +1,5 @@
+pub mod Exchanges
+pub mod Ends
+pub mod Refusals
+pub mod Talked
+pub mod Steps

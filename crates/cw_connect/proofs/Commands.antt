@@ -1,0 +1,21 @@
+-- Words are one command.
+use Rattle.std.proofs.Common.{◌≡◌, Option, None, Some}
+use Rattle.cw_words.specs.declared.command.Command.{Command}
+use Rattle.cw_words.specs.declared.command.Command.TheVariants.{Drive, Audit}
+use Rattle.cw_words.specs.declared.command.Options.{Options}
+
+module _ (asked : Option Command) where
+  pub same_command : (a b : Command) → asked ≡ Some a → asked ≡ Some b → a ≡ b
+  same_command a b one two = cc
+
+  pub same_drive : (a b : Options) → asked ≡ Some (Drive a) → asked ≡ Some (Drive b) → a ≡ b
+  same_drive a b one two = cc
+
+  pub same_audit : (a b : Options) → asked ≡ Some (Audit a) → asked ≡ Some (Audit b) → a ≡ b
+  same_audit a b one two = cc
+
+  pub drive_or_audit : (a b : Options) → asked ≡ Some (Drive a) → asked ≡ Some (Audit b) → ⊥
+  drive_or_audit a b one two = cc
+
+  pub some_or_none : (a : Command) → asked ≡ Some a → asked ≡ None → ⊥
+  some_or_none a one two = cc

@@ -1,0 +1,86 @@
+use Rattle.std.proofs.Common.{◌≡◌, ◌∙◌, ℕ, List, Some, ap, arith, refl, subst}
+use Rattle.cw_log.specs.declared.fault.Harm.{Harm}
+use Rattle.cw_model.specs.Reopening.{reopened, stored_of}
+use Rattle.cw_types.specs.declared.logs.DiskName.{DiskName}
+use Rattle.cw_words.specs.Asked.{command_of}
+use Rattle.cw_words.specs.declared.command.Options.{Options}
+use Rattle.cw_connect.specs.Audited.{IsAudited}
+use Rattle.cw_connect.specs.Opening.{IsSetFor}
+use Rattle.cw_connect.specs.Outcomes.{IsRun}
+use Rattle.cw_connect.specs.declared.status.Status.{Status}
+use Rattle.cw_connect.specs.declared.status.Status.TheVariants.{Usage, ReadFault, StoreFault, Damaged, ShelfFault, OutletFault}
+use Rattle.cw_connect.proofs.Commands.{drive_or_audit, same_audit, same_drive, some_or_none}
+use Rattle.cw_connect.proofs.Runs.{calm, completed, refused}
+use Rattle.cw_connect.proofs.top.run_command.Goals as goal
+
+pub returns-in-Drive : goal.returns-in-Drive
+returns-in-Drive g c = λ words asked.
+    let is = asked ∙ ap Some c.in-Drive.is in
+    let done = c.open_and_drive.ensures in
+    record {
+      drives = λ options also. subst (λ (o : Options). IsRun g.D.Disk g.I.Source g.O.Sink g.H.Shelf g.U.Outlet o c.open_and_drive.result.status c.args.shelf.now c.args.input.now c.open_and_drive.new.input
+          c.args.output.now c.open_and_drive.new.output c.args.disks c.open_and_drive.result.disks c.args.outlet c.open_and_drive.result.outlet) (same_drive (command_of words) c.in-Drive.options options is also) done.runs;
+      audits = λ options also. absurd (drive_or_audit (command_of words) c.in-Drive.options options is also);
+      audits_apart = λ options also. absurd (drive_or_audit (command_of words) c.in-Drive.options options is also);
+      makes = λ options also. done.makes;
+      usage = λ it. absurd (done.never_usage it);
+      no_command = λ none. absurd (some_or_none (command_of words) _ is none);
+      untouched = λ none. absurd (some_or_none (command_of words) _ is none);
+      damaged_only = done.damaged_only;
+      damaged = λ other also files tell at place harm has.
+          refused g.D.Disk g.I.Source g.O.Sink g.H.Shelf g.U.Outlet c.in-Drive.options c.open_and_drive.result.status c.args.shelf.now c.args.input.now c.open_and_drive.new.input c.args.output.now
+          c.open_and_drive.new.output c.args.disks c.open_and_drive.result.disks c.args.outlet c.open_and_drive.result.outlet done.runs done.damaged_only
+          (λ setting s files at place harm facts stand. c.files_open_one_way.ensures.harm files (stored_of s) (reopened s) at place harm stand (c.written_logs_open_again.ensures.stand setting s facts))
+          files tell at place harm has;
+      store_fault = done.store_fault;
+      shelf_fault = done.shelf_fault;
+      outlet_fault = done.outlet_fault;
+      read_fault = done.read_fault;
+      write_fault = done.write_fault;
+      later_in = done.later_in;
+      later_out = done.later_out;
+      later_shelf = done.later_shelf;
+      later_outlet = done.later_outlet;
+      later_disks = done.later_disks;
+      complete = λ options also bytes told files tell stored s lists stand fine calm_in calm_out calm_shelf calm_outlet calm_disks.
+          calm c.open_and_drive.result.status
+          (completed g.D.Disk g.I.Source g.O.Sink g.H.Shelf g.U.Outlet c.in-Drive.options c.open_and_drive.result.status c.args.shelf.now c.args.input.now c.open_and_drive.new.input c.args.output.now
+          c.open_and_drive.new.output c.args.disks c.open_and_drive.result.disks c.args.outlet c.open_and_drive.result.outlet done.runs
+          (λ disk at harm it. c.files_open_one_way.ensures.harm files stored s disk at harm lists stand (done.damaged_only disk at harm it files tell))
+          c.each_script_is_played_alike.ensures.whole bytes told
+          (λ setting t tells set from. fine setting t tells (subst (λ (o : Options). IsSetFor g.H.Shelf o c.args.shelf.now setting) (same_drive (command_of words) c.in-Drive.options options is also) set) from))
+          (λ it. calm_in (done.read_fault it)) (λ it. calm_out (done.write_fault it)) (λ it. calm_shelf (done.shelf_fault it)) (λ it. calm_outlet (done.outlet_fault it))
+          (λ disk count it. calm_disks disk (done.store_fault disk count it).rose);
+      reported = λ options also. absurd (drive_or_audit (command_of words) c.in-Drive.options options is also);
+    }
+
+pub returns-in-Audit : goal.returns-in-Audit
+returns-in-Audit g c = λ words asked.
+    let is = asked ∙ ap Some c.in-Audit.is in
+    let done = c.open_and_audit-status.ensures in
+    let never : (status : Status) → c.open_and_audit-status.result.status ≡ status → IsAudited g.D.Disk g.O.Sink g.H.Shelf c.in-Audit.options status c.args.shelf.now c.args.output.now c.open_and_audit-status.new.output c.args.disks c.open_and_audit-status.result.disks
+    = λ status it. subst (λ (s : Status). IsAudited g.D.Disk g.O.Sink g.H.Shelf c.in-Audit.options s c.args.shelf.now c.args.output.now c.open_and_audit-status.new.output c.args.disks c.open_and_audit-status.result.disks) it done.due in
+    record {
+      drives = λ options also. absurd (drive_or_audit (command_of words) options c.in-Audit.options also is);
+      audits = λ options also. subst (λ (o : Options). IsAudited g.D.Disk g.O.Sink g.H.Shelf o c.open_and_audit-status.result.status c.args.shelf.now c.args.output.now c.open_and_audit-status.new.output c.args.disks c.open_and_audit-status.result.disks)
+          (same_audit (command_of words) c.in-Audit.options options is also) done.due;
+      audits_apart = λ options also. (refl, refl);
+      makes = λ options also. absurd (drive_or_audit (command_of words) options c.in-Audit.options also is);
+      usage = λ it. absurd (never Usage it);
+      no_command = λ none. absurd (some_or_none (command_of words) _ is none);
+      untouched = λ none. absurd (some_or_none (command_of words) _ is none);
+      damaged_only = done.damaged_only;
+      damaged = λ command also. done.damaged;
+      store_fault = done.store_fault;
+      shelf_fault = done.shelf_fault;
+      outlet_fault = λ it. absurd (never OutletFault it);
+      read_fault = λ it. absurd (never ReadFault it);
+      write_fault = done.write_fault;
+      later_in = omega arith;
+      later_out = done.later_out;
+      later_shelf = done.later_shelf;
+      later_outlet = omega arith;
+      later_disks = done.later_disks;
+      complete = λ options also. absurd (drive_or_audit (command_of words) options c.in-Audit.options also is);
+      reported = λ options also. done.complete;
+    }

@@ -1,0 +1,92 @@
+-- How a run of the program ended, for its words and over what it was handed: what is due for each command, why a run
+-- ends otherwise, and that no count of faults falls. This project's own rule.
+use Rattle.std.specs.Prelude.{◌≡◌, ◌≤◌, ◌⊎◌, ℕ, Bool, List, [], None, Some}
+use Rattle.cw_disk.specs.declared.device.Disk.{Ghosts}
+use Rattle.cw_disk.specs.declared.disks.Disks.{Disks}
+use Rattle.cw_io.specs.declared.outlet.Outlet as outlet
+use Rattle.cw_io.specs.declared.shelf.Shelf as shelf
+use Rattle.cw_io.specs.declared.traits.Source.{Ghosts as Input}
+use Rattle.cw_io.specs.declared.traits.Sink.{Ghosts as Output}
+use Rattle.cw_log.specs.declared.fault.Harm.{Harm}
+use Rattle.cw_model.specs.StandsFor.{Stored, StandFor}
+use Rattle.cw_model.specs.State.{Cluster, Setting}
+use Rattle.cw_open.specs.Judged.{HasFirstHarm}
+use Rattle.cw_open.specs.Leaving.{StandForLists}
+use Rattle.cw_open.specs.Reopened.{DiskFiles, FailedAt, NoneFell, TellAll, disk_in}
+use Rattle.cw_types.specs.Faults.{Rose}
+use Rattle.cw_types.specs.declared.logs.DiskName.{DiskName}
+use Rattle.cw_words.specs.Asked.{command_of}
+use Rattle.cw_words.specs.declared.command.Command.{Command}
+use Rattle.cw_words.specs.declared.command.Command.TheVariants.{Drive, Audit}
+use Rattle.cw_words.specs.declared.command.Options.{Options}
+use Rattle.cw_cluster.specs.Run.{run}
+use Rattle.cw_connect.specs.Audited.{IsAudited}
+use Rattle.cw_connect.specs.Making.{AreMade, AreUnmade}
+use Rattle.cw_connect.specs.Opening.{IsSetFor, IsOpenedFrom}
+use Rattle.cw_connect.specs.Outcomes.{IsRefusedFor, IsRun}
+use Rattle.cw_connect.specs.declared.status.Status.{Status}
+use Rattle.cw_connect.specs.declared.status.Status.TheVariants.{Done, Usage, ReadFault, WriteFault, StoreFault, Damaged, ShelfFault, OutletFault, Memory}
+
+-- what the program is handed, and gives back
+pub record Handed (D I O H U : Type 0) : Type 0 where
+  pub disks : Disks D
+  pub input : I
+  pub output : O
+  pub shelf : H
+  pub outlet : U
+
+pub record HasEnded {D I O H U : Type 0} (G : Ghosts D) (i : Input I) (o : Output O) (S : shelf.Ghosts H)
+    (u : outlet.Ghosts U) (words : List (List ℕ)) (status : Status) (old new : Handed D I O H U) : Type 0 where
+  -- Either no cluster was opened, or what was read, written and left is due over the one that the disks held.
+  pub drives : (options : Options) → command_of words ≡ Some (Drive options) →
+      IsRun G i o S u options status old.shelf old.input new.input old.output new.output old.disks new.disks
+      old.outlet new.outlet
+  -- What the logs hold was written, or a first part of it, or nothing, and why.
+  pub audits : (options : Options) → command_of words ≡ Some (Audit options) →
+      IsAudited G o S options status old.shelf old.output new.output old.disks new.disks
+  pub audits_apart : (options : Options) → command_of words ≡ Some (Audit options) →
+      (new.input ≡ old.input) × (new.outlet ≡ old.outlet)
+  -- Over unmade disks a script without a byte leaves made ones: of a log of two sides side a.
+  pub makes : (options : Options) → command_of words ≡ Some (Drive options) → i.left old.input ≡ Some [] →
+      status ≡ Done → (files : DiskFiles) → TellAll G old.disks files → AreUnmade files → AreMade G files new.disks
+  -- Usage comes exactly where the words are no command, unless memory was wanting for reading them. Nothing is then
+  -- touched.
+  pub usage : status ≡ Usage → command_of words ≡ None
+  pub no_command : command_of words ≡ None → (status ≡ Usage) ⊎ (status ≡ Memory)
+  pub untouched : command_of words ≡ None → new ≡ old
+  -- Damaged comes exactly where the files have a harm, and tells their first, of which there is one.
+  pub damaged_only : (disk : DiskName) (at : ℕ) (harm : Harm) → status ≡ Damaged disk at harm →
+      (files : DiskFiles) → TellAll G old.disks files → HasFirstHarm files disk at harm
+  pub damaged : (command : Command) → command_of words ≡ Some command →
+      (files : DiskFiles) → TellAll G old.disks files → (at : DiskName) (place : ℕ) (harm : Harm) →
+      HasFirstHarm files at place harm → IsRefusedFor at place harm status
+  -- A fault comes only where its object's count of faults rose, and no count falls.
+  pub store_fault : (disk : DiskName) (count : ℕ) → status ≡ StoreFault disk count →
+      FailedAt G.count old.disks new.disks disk count
+  pub shelf_fault : status ≡ ShelfFault → Rose (S.faults old.shelf) (S.faults new.shelf)
+  pub outlet_fault : status ≡ OutletFault → Rose (u.faults old.outlet) (u.faults new.outlet)
+  pub read_fault : status ≡ ReadFault → Rose (i.faults old.input) (i.faults new.input)
+  pub write_fault : status ≡ WriteFault → Rose (o.faults old.output) (o.faults new.output)
+  pub later_in : i.faults old.input ≤ i.faults new.input
+  pub later_out : o.faults old.output ≤ o.faults new.output
+  pub later_shelf : S.faults old.shelf ≤ S.faults new.shelf
+  pub later_outlet : u.faults old.outlet ≤ u.faults new.outlet
+  pub later_disks : NoneFell G old.disks new.disks
+  -- A script that runs to its end over the state for which the disks stand is done where no count rises, unless memory
+  -- is wanting.
+  pub complete : (options : Options) → command_of words ≡ Some (Drive options) →
+      (bytes : List ℕ) → i.left old.input ≡ Some bytes → (files : DiskFiles) → TellAll G old.disks files →
+      (stored : Stored) (s : Cluster) → StandForLists files stored → StandFor stored s →
+      ((setting : Setting) (t : Cluster) (tells : Bool) → IsSetFor S options old.shelf setting →
+      IsOpenedFrom G old.disks setting t tells → (run setting t bytes).stop ≡ None) →
+      ¬ Rose (i.faults old.input) (i.faults new.input) → ¬ Rose (o.faults old.output) (o.faults new.output) →
+      ¬ Rose (S.faults old.shelf) (S.faults new.shelf) → ¬ Rose (u.faults old.outlet) (u.faults new.outlet) →
+      ((disk : DiskName) → ¬ Rose (G.count (disk_in disk old.disks)) (G.count (disk_in disk new.disks))) →
+      (status ≡ Done) ⊎ (status ≡ Memory)
+  -- So is a report on disks that stand for a state.
+  pub reported : (options : Options) → command_of words ≡ Some (Audit options) →
+      (files : DiskFiles) → TellAll G old.disks files →
+      (stored : Stored) (s : Cluster) → StandForLists files stored → StandFor stored s →
+      ¬ Rose (o.faults old.output) (o.faults new.output) → ¬ Rose (S.faults old.shelf) (S.faults new.shelf) →
+      ((disk : DiskName) → ¬ Rose (G.count (disk_in disk old.disks)) (G.count (disk_in disk new.disks))) →
+      (status ≡ Done) ⊎ (status ≡ Memory)

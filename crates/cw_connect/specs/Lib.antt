@@ -1,0 +1,6 @@
+pub mod Statuses
+pub mod Opening
+pub mod Outcomes
+pub mod Making
+pub mod Audited
+pub mod Ended

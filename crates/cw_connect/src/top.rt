@@ -1,0 +1,188 @@
+//! The top call: what the program does for its words, its disks, its feeds, its input and its output.
+ghost use Rattle.std.specs.Prelude.{◌≡◌, ℕ, List, Some, Ok, map, string_bytes};
+ghost use Rattle.cw_lines.specs.Players.{player_of};
+ghost use Rattle.cw_lines.specs.Plays.{behind_lines};
+ghost use Rattle.cw_log.specs.declared.fault.Harm.{Harm};
+ghost use Rattle.cw_model.specs.Facts.{AreFacts};
+ghost use Rattle.cw_model.specs.Grows.{Grows};
+ghost use Rattle.cw_model.specs.Journal.{IsTrueJournal};
+ghost use Rattle.cw_model.specs.Reopening.{reopened, stored_of};
+ghost use Rattle.cw_model.specs.Safe.{IsSafe};
+ghost use Rattle.cw_model.specs.StandsFor.{Stored, StandFor};
+ghost use Rattle.cw_model.specs.State.{Cluster, Setting};
+ghost use Rattle.cw_open.specs.Judged.{HasFirstHarm};
+ghost use Rattle.cw_open.specs.Leaving.{IsSameBesidesSides, StandForLists};
+ghost use Rattle.cw_open.specs.Reopened.{DiskFiles};
+ghost use Rattle.cw_script.specs.Lines.{line_of};
+ghost use Rattle.cw_script.specs.declared.directive.Directive.{Directive};
+ghost use Rattle.cw_types.specs.declared.logs.DiskName.{DiskName};
+ghost use Rattle.cw_words.specs.Asked.{command_of};
+ghost use Rattle.cw_cluster.specs.Breaking.{IsInFlight};
+ghost use Rattle.cw_cluster.specs.Ran.{Ran};
+ghost use Rattle.cw_cluster.specs.Reaches.{HaveNames};
+ghost use Rattle.cw_cluster.specs.Rules.{drive_rules};
+ghost use Rattle.cw_connect.specs.Ended.{HasEnded};
+
+use crate::auditing::{Report, open_and_audit};
+use crate::driving::open_and_drive;
+use crate::status::Status;
+use cw_cluster::{
+    each_line_on_its_way_is_a_run, each_script_is_a_run, each_script_is_played_alike,
+    what_is_in_flight_is_reached, what_is_reached_is_safe,
+};
+use cw_disk::{Disk, Disks};
+use cw_io::{Outlet, Shelf, Sink, Source};
+use cw_laws::written_logs_open_again;
+use cw_open::files_open_one_way;
+use cw_words::{Command, read_words};
+use std::alloc::Global;
+
+/// What a run of the program gave.
+#[derive(Drop)]
+pub struct Outcome<D, U> {
+    /// How it ended.
+    pub status: Status,
+    /// The disks that were handed in.
+    pub disks: Disks<D>,
+    /// The outlet that was handed in.
+    pub outlet: U,
+}
+
+/// The program. The words are judged first; where they are no command, nothing is touched. The command `drive` then
+/// loads the feeds, opens the disks as a cluster, and plays the script that the input holds, writing an answer line
+/// for each directive. `audit` loads the feeds and opens the disks too, and writes what the logs hold.
+pub fn connect<R: AllocGlobal, D: Disk, I: Source, O: Sink, H: Shelf, U: Outlet>(
+    rt: &R,
+    words: &[String],
+    disks: Disks<D>,
+    input: &mut I,
+    output: &mut O,
+    shelf: &mut H,
+    outlet: U,
+) -> Outcome<D, U>
+    // What is due for the command that the words are, why a run ends otherwise, and which counts of faults rose.
+    ensures ended { HasEnded D.Disk I.Source O.Sink H.Shelf U.Outlet (map string_bytes words.now) result.status
+        (record { disks = disks; input = input.old; output = output.old; shelf = shelf.old; outlet = outlet })
+        (record {
+          disks = result.disks;
+          input = input.new;
+          output = output.new;
+          shelf = shelf.new;
+          outlet = result.outlet;
+        }) }
+
+    // Behind any lines over a state of the cluster, and where one of them was left on its way, the state is safe, its
+    // journal true, and all facts hold in it again.
+    ensures safe { (setting : Setting) (ran : Ran) (script : List ℕ) (lines : ℕ) → HaveNames setting →
+        AreFacts setting ran.cluster →
+        IsSafe setting (behind_lines (player_of drive_rules setting) lines script ran).store.cluster }
+    ensures journal { (setting : Setting) (ran : Ran) (script : List ℕ) (lines : ℕ) → HaveNames setting →
+        AreFacts setting ran.cluster →
+        IsTrueJournal setting (behind_lines (player_of drive_rules setting) lines script ran).store.cluster }
+    ensures facts { (setting : Setting) (ran : Ran) (script : List ℕ) (lines : ℕ) → HaveNames setting →
+        AreFacts setting ran.cluster →
+        AreFacts setting (behind_lines (player_of drive_rules setting) lines script ran).store.cluster }
+    // What was written, answered and read before stands in it: no worker's view of the configs gets shorter.
+    ensures grows { (setting : Setting) (ran : Ran) (script : List ℕ) (lines : ℕ) → HaveNames setting →
+        AreFacts setting ran.cluster →
+        Grows ran.cluster (behind_lines (player_of drive_rules setting) lines script ran).store.cluster }
+    ensures amid { (setting : Setting) (number : ℕ) (line : List ℕ) (ran left : Ran) → HaveNames setting →
+        AreFacts setting ran.cluster → drive_rules.amid setting number line ran left →
+        IsSafe setting left.cluster }
+    ensures amid_facts { (setting : Setting) (number : ℕ) (line : List ℕ) (ran left : Ran) → HaveNames setting →
+        AreFacts setting ran.cluster → drive_rules.amid setting number line ran left →
+        AreFacts setting left.cluster }
+
+    // Where a disk failed in a line, all facts hold in the state before the event that was in flight, and behind it.
+    ensures before_flight { (setting : Setting) (line : List ℕ) (directive : Directive) (ran at : Ran) (next : Cluster) →
+        HaveNames setting → AreFacts setting ran.cluster → line_of line ≡ Ok (Some directive) →
+        IsInFlight setting directive ran at next → AreFacts setting at.cluster }
+    ensures behind_flight { (setting : Setting) (line : List ℕ) (directive : Directive) (ran at : Ran) (next : Cluster) →
+        HaveNames setting → AreFacts setting ran.cluster → line_of line ≡ Ok (Some directive) →
+        IsInFlight setting directive ran at next → AreFacts setting next }
+
+    // Whatever files stand for the logs of such a state have no harm, and open to it, without its workers.
+    ensures harmless { (setting : Setting) (s : Cluster) (files : DiskFiles) (at : DiskName) (place : ℕ) (harm : Harm) →
+        AreFacts setting s → StandForLists files (stored_of s) → ¬ HasFirstHarm files at place harm }
+    ensures reopens { (setting : Setting) (s t : Cluster) (files : DiskFiles) (other : Stored) → AreFacts setting s →
+        StandForLists files (stored_of s) → StandForLists files other → StandFor other t →
+        IsSameBesidesSides (reopened s) t }
+{
+    each_script_is_a_run();
+    each_script_is_played_alike();
+    each_line_on_its_way_is_a_run();
+    what_is_in_flight_is_reached();
+    what_is_reached_is_safe();
+    written_logs_open_again();
+    files_open_one_way();
+    run_words(rt.alloc(), words, disks, input, output, shelf, outlet)
+}
+
+// Reads the words, and runs their command.
+fn run_words<D: Disk, I: Source, O: Sink, H: Shelf, U: Outlet>(
+    alloc: Global,
+    words: &[String],
+    disks: Disks<D>,
+    input: &mut I,
+    output: &mut O,
+    shelf: &mut H,
+    outlet: U,
+) -> Outcome<D, U>
+    ensures { HasEnded D.Disk I.Source O.Sink H.Shelf U.Outlet (map string_bytes words.now) result.status
+        (record { disks = disks; input = input.old; output = output.old; shelf = shelf.old; outlet = outlet })
+        (record {
+          disks = result.disks;
+          input = input.new;
+          output = output.new;
+          shelf = shelf.new;
+          outlet = result.outlet;
+        }) }
+{
+    match read_words(alloc, words) {
+        Ok(command) => run_command(alloc, command, disks, input, output, shelf, outlet),
+        Err(fault) => Outcome {
+            status: Status::of_words(fault),
+            disks,
+            outlet,
+        },
+    }
+}
+
+// Runs a command.
+fn run_command<D: Disk, I: Source, O: Sink, H: Shelf, U: Outlet>(
+    alloc: Global,
+    command: Command,
+    disks: Disks<D>,
+    input: &mut I,
+    output: &mut O,
+    shelf: &mut H,
+    outlet: U,
+) -> Outcome<D, U>
+    ensures { (words : List (List ℕ)) → command_of words ≡ Some command →
+        HasEnded D.Disk I.Source O.Sink H.Shelf U.Outlet words result.status
+        (record { disks = disks; input = input.old; output = output.old; shelf = shelf.old; outlet = outlet })
+        (record {
+          disks = result.disks;
+          input = input.new;
+          output = output.new;
+          shelf = shelf.new;
+          outlet = result.outlet;
+        }) }
+{
+    each_script_is_played_alike();
+    written_logs_open_again();
+    files_open_one_way();
+    match command {
+        Command::Drive(options) => {
+            open_and_drive(alloc, options, disks, input, output, shelf, outlet)
+        }
+        Command::Audit(options) => {
+            let Report { status, disks } = open_and_audit(alloc, options, disks, output, shelf);
+            Outcome {
+                status,
+                disks,
+                outlet,
+            }
+        }
+    }
+}

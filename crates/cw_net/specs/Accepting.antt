@@ -1,0 +1,15 @@
+-- What a listener answers: a link, or that there are no more. This project's own rule.
+use Rattle.std.specs.Prelude.{ℕ, Bool, true, false, Option, Some, None, Result, Ok, Err}
+use Rattle.cw_io.specs.declared.traits.Failed.{Failed}
+
+-- how many links an answer gives
+abbrev pub links_in : {L : Type 0} → Result (Option L) Failed → ℕ
+links_in (Ok (Some link)) = 1
+links_in (Ok None) = 0
+links_in (Err failed) = 0
+
+-- whether it says that there are no more
+abbrev pub is_end : {L : Type 0} → Result (Option L) Failed → Bool
+is_end (Ok (Some link)) = false
+is_end (Ok None) = true
+is_end (Err failed) = false

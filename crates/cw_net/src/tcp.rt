@@ -1,0 +1,80 @@
+//! THE TRUSTED EDGE: a listener that is a TCP port of the system. No clause can say who connects; what is proved is
+//! that it counts its links and its faults.
+ghost use Rattle.std.specs.Prelude.{◌≡◌, false};
+
+use crate::listener::Listener;
+use cw_io::{Failed, TcpLink};
+use std::io;
+use std::net::{Net, TcpListener, TcpStream};
+
+// Where the REST API of a Kafka Connect worker listens by default, on this machine alone.
+const ADDRESS: &str = "127.0.0.1:8083";
+
+/// A listener on port 8083 of this machine's own address, from its first call on. A listener that has given 2^64 - 1
+/// links gives no more.
+#[derive(Drop)]
+pub struct PortListener<'r, R: Net<Listener = TcpListener, Stream = TcpStream>> {
+    system: &'r R,
+    listener: Option<TcpListener>,
+    given: u64,
+    ended: bool,
+    faults: u64,
+}
+
+impl<'r, R: Net<Listener = TcpListener, Stream = TcpStream>> PortListener<'r, R> {
+    /// A listener that has given no link yet. It doesn't listen before its first call.
+    pub fn new(system: &'r R) -> PortListener<'r, R>
+        ensures given { ⟦<PortListener<'r, R> as Listener>⟧.given result ≡ 0 }
+        ensures ended { ⟦<PortListener<'r, R> as Listener>⟧.ended result ≡ false }
+        ensures faults { ⟦<PortListener<'r, R> as Listener>⟧.faults result ≡ 0 }
+    {
+        PortListener {
+            system,
+            listener: None,
+            given: 0,
+            ended: false,
+            faults: 0,
+        }
+    }
+}
+
+impl<R: Net<Listener = TcpListener, Stream = TcpStream>> Listener for PortListener<'_, R> {
+    type Link = TcpLink;
+
+    ghost given = { λ l. l.given };
+
+    ghost ended = { λ l. l.ended };
+
+    ghost faults = { λ l. l.faults };
+
+    fn accept(&mut self) -> Result<Option<TcpLink>, Failed> {
+        if self.given == u64::MAX {
+            self.ended = true;
+            return Ok(None);
+        }
+        match next_stream(self.system, &mut self.listener) {
+            Ok(stream) => {
+                self.given += 1;
+                Ok(Some(TcpLink::new(stream)))
+            }
+            Err(_) => {
+                self.faults = self.faults.saturating_add(1);
+                Err(Failed)
+            }
+        }
+    }
+}
+
+// Waits for the next connection. The first call binds the port.
+fn next_stream<R: Net<Listener = TcpListener, Stream = TcpStream>>(
+    system: &R,
+    listener: &mut Option<TcpListener>,
+) -> io::Result<TcpStream> {
+    if listener.is_none() {
+        *listener = Some(TcpListener::bind(system, ADDRESS)?);
+    }
+    match listener {
+        Some(listener) => Ok(listener.accept()?.0),
+        None => unreachable!(),
+    }
+}

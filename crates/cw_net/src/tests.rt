@@ -1,0 +1,46 @@
+//! What is in memory gives what it was given and fails where it is told to; the adapters reach the system.
+use crate::{
+    Clock, Gate, Listener, MemClock, MemListener, OpenGate, Point, PortListener, SystemClock,
+};
+use cw_io::{Failed, MemLink, send_all};
+use std::collections::VecDeque;
+use std::net::TcpListener;
+use std::test::Fail;
+
+#[test]
+fn a_listener_in_memory_fails_where_told(rt: HostRuntime) -> Result<(), Fail> {
+    let alloc = rt.alloc();
+    let mut links = VecDeque::new(alloc);
+    for name in [b"a", b"b"] {
+        links.push_back(MemLink::new(alloc, name.to_vec(alloc)?, 8, 8, Vec::new(alloc))?)?;
+    }
+    let mut listener = MemListener::new(links, vec![in alloc; 1u64]?);
+    let mut first = listener.accept()?.ok_or("no link")?;
+    assert_eq!(rt; send_all(&mut first, b"x"), Ok(()));
+    assert!(rt; listener.accept().is_err());
+    assert!(rt; listener.accept()?.is_some());
+    assert!(rt; listener.accept()?.is_none());
+    Ok(())
+}
+
+#[test]
+fn a_port_that_is_taken_is_a_fault(rt: HostRuntime) {
+    let _taken = TcpListener::bind(&rt, "127.0.0.1:8083");
+    let mut listener = PortListener::new(&rt);
+    match listener.accept() {
+        Ok(_) => assert!(rt; false),
+        Err(fault) => assert_eq!(rt; fault, Failed),
+    }
+}
+
+#[test]
+fn clocks_go_on(rt: HostRuntime) {
+    let mut clock = MemClock::new(5, 2);
+    assert_eq!(rt; clock.now(), 7);
+    assert_eq!(rt; clock.now(), 9);
+    let mut clock = SystemClock::new(&rt);
+    let first = clock.now();
+    assert!(rt; first > 1_600_000_000_000);
+    assert!(rt; clock.now() >= first);
+    OpenGate.pass(Point::AfterTick, 0);
+}

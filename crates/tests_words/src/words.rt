@@ -1,0 +1,42 @@
+use cw_words::{Command, WordsFault, read_words};
+use std::test::Fail;
+
+// What words are read as.
+fn read(rt: &HostRuntime, line: &str) -> Result<Result<Command, WordsFault>, Fail> {
+    let mut words = Vec::new(rt.alloc());
+    for word in line.split(' ') {
+        words.push(String::from_str(rt.alloc(), word)?)?;
+    }
+    Ok(read_words(rt.alloc(), &words))
+}
+
+#[test]
+fn drive_has_a_group_and_a_delay(rt: HostRuntime) -> Result<(), Fail> {
+    let Command::Drive(plain) = read(&rt, "drive")?? else {
+        return Err(WordsFault::Usage.into());
+    };
+    assert_eq!(rt; plain.group.as_bytes(), b"connect-cluster".as_slice());
+    assert!(rt; plain.delay == 300000);
+    let Command::Drive(given) = read(&rt, "drive --delay 0 --group=g")?? else {
+        return Err(WordsFault::Usage.into());
+    };
+    assert!(rt; given.group.as_bytes() == b"g".as_slice() && given.delay == 0);
+    Ok(())
+}
+
+#[test]
+fn other_words_are_no_command(rt: HostRuntime) -> Result<(), Fail> {
+    for line in [
+        "",
+        "run",
+        "drive more",
+        "--help",
+        "drive -h",
+        "drive --delay 01",
+        "audit more",
+        "gen 7 4",
+    ] {
+        assert!(rt; read(&rt, line)? == Err(WordsFault::Usage));
+    }
+    Ok(())
+}
