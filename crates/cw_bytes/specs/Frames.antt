@@ -1,7 +1,8 @@
 -- A log as the list of its frames, each with the records that it was written with, and what a compaction by keys
 -- leaves of it, as Kafka's compacted topics have it: of each key the last record stays, offsets and stamps stay, and
 -- a frame of which nothing stays goes (the last is this project's own).
-use Rattle.std.specs.Prelude.{ℕ, ◌+◌, ◌==◌, Bool, false, not, List, [], ◌∷◌, ◌++◌, length, map, max, bytes_eq, Option, None}
+use Rattle.std.specs.Prelude.{ℕ, ◌+◌, ◌==◌, Bool, false, not, List, [], ◌∷◌, ◌++◌, length, map, max, bytes_eq, Option}
+use Rattle.std.specs.Prelude.{None}
 use Rattle.std.specs.Bool.{⊤}
 use Rattle.std.specs.Option.{option_map_or}
 use Rattle.std.specs.List.{filter, flat_map, fold, last_or}

@@ -1,7 +1,9 @@
 //! Reading one field behind the other.
 ghost use Rattle.std.specs.Prelude.{◌≡◌, IfOk, IfErr, OnErr};
 ghost use Rattle.cw_bytes.specs.Input.{unread};
-ghost use Rattle.cw_bytes.specs.Reading.{Fails, Gives, PutsSpan, cut_at, text_at, name_at, task_at, raw_id_at, tid_at, tag_at, flag_at, mark_at, raw_part_at, file_at, seq_at, sink_at, part_at, span_at, some_text_at, value_at, record_at, many_at, records_at};
+ghost use Rattle.cw_bytes.specs.Reading.{Fails, Gives, PutsSpan, cut_at, text_at, name_at, task_at, raw_id_at, tid_at};
+ghost use Rattle.cw_bytes.specs.Reading.{tag_at, flag_at, mark_at, raw_part_at, file_at, seq_at, sink_at, part_at};
+ghost use Rattle.cw_bytes.specs.Reading.{span_at, some_text_at, value_at, record_at, many_at, records_at};
 
 use crate::applied::Applied;
 use crate::fault::FieldFault;

@@ -2,8 +2,10 @@
 ghost use Rattle.std.specs.Prelude.{◌≡◌, ◌==◌, ◌<◌, ◌^◌, ℕ, [], ◌∷◌, length, Ok, IfOk, IfErr, OnOk, OnErr};
 ghost use Rattle.std.specs.Int.{w32, w64};
 ghost use Rattle.cw_bytes.specs.Unread.{Unread, Takes, AreBytes};
-ghost use Rattle.cw_bytes.specs.Spelling.{word, long, text, tid_bytes, tag_bytes, mark_bytes, part_bytes, span_bytes, records_bytes, IsText, IsTid, IsTag, IsMark, IsPart, IsSpan, AreRecords};
-ghost use Rattle.cw_bytes.specs.Reading.{Fails, Gives, PutsSpan, ReadsSpelled, byte_at, number_at, text_at, tid_at, tag_at, mark_at, part_at, span_at, records_at};
+ghost use Rattle.cw_bytes.specs.Spelling.{word, long, text, tid_bytes, tag_bytes, mark_bytes, part_bytes, span_bytes};
+ghost use Rattle.cw_bytes.specs.Spelling.{records_bytes, IsText, IsTid, IsTag, IsMark, IsPart, IsSpan, AreRecords};
+ghost use Rattle.cw_bytes.specs.Reading.{Fails, Gives, PutsSpan, ReadsSpelled, byte_at, number_at, text_at, tid_at};
+ghost use Rattle.cw_bytes.specs.Reading.{tag_at, mark_at, part_at, span_at, records_at};
 
 use crate::applied::Applied;
 use crate::fault::FieldFault;

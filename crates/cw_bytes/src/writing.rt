@@ -1,6 +1,8 @@
 //! Writing fields.
 ghost use Rattle.std.specs.Prelude.{◌≡◌, ◌++◌, OnOk, OnErr};
-ghost use Rattle.cw_bytes.specs.Spelling.{text, tid_bytes, tag_bytes, flag_bytes, mark_bytes, part_bytes, span_bytes, value_bytes, record_bytes, records_bytes, IsText, IsTid, IsTag, IsMark, IsPart, IsSpan, IsRecord, AreRecords};
+ghost use Rattle.cw_bytes.specs.Spelling.{text, tid_bytes, tag_bytes, flag_bytes, mark_bytes, part_bytes, span_bytes};
+ghost use Rattle.cw_bytes.specs.Spelling.{value_bytes, record_bytes, records_bytes, IsText, IsTid, IsTag, IsMark};
+ghost use Rattle.cw_bytes.specs.Spelling.{IsPart, IsSpan, IsRecord, AreRecords};
 ghost use Rattle.cw_types.specs.Name.{IsName};
 
 use crate::applied::Applied;

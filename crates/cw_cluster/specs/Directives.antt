@@ -2,14 +2,17 @@
 -- by requests as Kafka Connect's are; that a script says when, and the texts of the answers, are this project's own.
 use Rattle.std.specs.Prelude.{[], ◌∷◌, map, codes, decimal}
 use Rattle.cw_script.specs.declared.directive.Directive.{Directive}
-use Rattle.cw_script.specs.declared.directive.Directive.TheVariants.{Init, Commit, Spawn, Kill, Deaf, Hear, Expire, Clock, Tick, Step, Settle, Rest, Held, Member, Take, Compact}
+use Rattle.cw_script.specs.declared.directive.Directive.TheVariants.{Init, Commit, Spawn, Kill, Deaf, Hear, Expire}
+use Rattle.cw_script.specs.declared.directive.Directive.TheVariants.{Clock, Tick, Step, Settle, Rest, Held, Member}
+use Rattle.cw_script.specs.declared.directive.Directive.TheVariants.{Take, Compact}
 use Rattle.cw_model.specs.State.{Setting, Cluster}
 use Rattle.cw_model.specs.EventsWorkers.{spawn, kill, deaf, hear, expire, clock}
 use Rattle.cw_model.specs.EventsRaw.{raw_init, raw_commit}
 use Rattle.cw_model.specs.EventsCompaction.{compact}
 use Rattle.cw_model.specs.Tick.{tick}
 use Rattle.cw_model.specs.Steps.{step}
-use Rattle.cw_cluster.specs.Answers.{Told, told, says, epoch_words, committed_words, worker_words, tick_words, step_words, compacted_words, reply_words, pair_of}
+use Rattle.cw_cluster.specs.Answers.{Told, told, says, epoch_words, committed_words, worker_words, tick_words}
+use Rattle.cw_cluster.specs.Answers.{step_words, compacted_words, reply_words, pair_of}
 use Rattle.cw_cluster.specs.Looks.{held_words, member_words, taken_words}
 use Rattle.cw_cluster.specs.Requests.{answers, call_of}
 use Rattle.cw_cluster.specs.Settling.{settles}

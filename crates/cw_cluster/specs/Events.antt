@@ -5,7 +5,9 @@ use Rattle.cw_types.specs.declared.logs.LogName.{LogName}
 use Rattle.cw_group.specs.Members.{member_of}
 use Rattle.cw_data.specs.Log.{taken}
 use Rattle.cw_script.specs.declared.directive.Directive.{Directive}
-use Rattle.cw_script.specs.declared.directive.Directive.TheVariants.{Init, Commit, Spawn, Kill, Deaf, Hear, Expire, Clock, Tick, Step, Settle, Rest, Held, Member, Take, Compact}
+use Rattle.cw_script.specs.declared.directive.Directive.TheVariants.{Init, Commit, Spawn, Kill, Deaf, Hear, Expire}
+use Rattle.cw_script.specs.declared.directive.Directive.TheVariants.{Clock, Tick, Step, Settle, Rest, Held, Member}
+use Rattle.cw_script.specs.declared.directive.Directive.TheVariants.{Take, Compact}
 use Rattle.cw_model.specs.declared.fault.WorldFault.{WorldFault}
 use Rattle.cw_model.specs.declared.fault.WorldFault.TheVariants.{Memory}
 use Rattle.cw_model.specs.State.{Setting, Cluster}

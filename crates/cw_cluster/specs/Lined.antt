@@ -1,6 +1,7 @@
 -- What a line of a script does to a world, to an outlet, and to the answers that wait to be written: its directive is
 -- played, and of a line that is none nothing. This project's own.
-use Rattle.std.specs.Prelude.{◌≡◌, ◌⊎◌, ℕ, List, [], ◌∷◌, Option, Some, is_some, decimal, Result, Ok, Err, MatchResult, OnOk, IfErr}
+use Rattle.std.specs.Prelude.{◌≡◌, ◌⊎◌, ℕ, List, [], ◌∷◌, Option, Some, is_some, decimal, Result, Ok, Err, MatchResult}
+use Rattle.std.specs.Prelude.{OnOk, IfErr}
 use Rattle.cw_types.specs.Faults.{Rose}
 use Rattle.cw_disk.specs.declared.device.Disk.{Ghosts}
 use Rattle.cw_io.specs.declared.outlet.Outlet as outlet
@@ -29,8 +30,9 @@ use Rattle.cw_cluster.specs.Settling.{is_quiet, quiet_text}
 
 -- A directive that names nobody who never was is played over a world and an outlet. It was played, or how it stopped;
 -- no count of faults falls, and the outlet's rose where it ends the script.
-pub record PlaysOver {D U : Type 0} (G : Ghosts D) (O : outlet.Ghosts U) (directive : Directive) (old new : WorldState D)
-    (out_old out_new : U) (before after : List ℕ) (result : Result (Unit {0}) DriveEnd) : Type 0 where
+pub record PlaysOver {D U : Type 0} (G : Ghosts D) (O : outlet.Ghosts U) (directive : Directive)
+    (old new : WorldState D) (out_old out_new : U)
+    (before after : List ℕ) (result : Result (Unit {0}) DriveEnd) : Type 0 where
   pub outcome : MatchResult result
       (λ done. HasPlayed (ran_played old.setting directive (ran_of G O old out_old)) before after
       (ran_of G O new out_new) × IsAlive G new)

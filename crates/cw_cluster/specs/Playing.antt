@@ -1,7 +1,8 @@
--- What a directive does to a world, to an outlet, and to the answers that wait to be written. It is done, or refused, as
--- the definitions say; or memory is wanting or the outlet fails, and it is left on its way without an answer; or a disk
--- fails. This project's own.
-use Rattle.std.specs.Prelude.{◌≡◌, ◌⊎◌, ◌≤◌, ℕ, List, [], ◌++◌, true, Option, Some, None, is_some, Result, Ok, Err, MatchResult}
+-- What a directive does to a world, to an outlet, and to the answers that wait to be written. It is done, or refused,
+-- as the definitions say; or memory is wanting or the outlet fails, and it is left on its way without an answer; or a
+-- disk fails. This project's own.
+use Rattle.std.specs.Prelude.{◌≡◌, ◌⊎◌, ◌≤◌, ℕ, List, [], ◌++◌, true, Option, Some, None, is_some, Result, Ok, Err}
+use Rattle.std.specs.Prelude.{MatchResult}
 use Rattle.cw_types.specs.Faults.{Rose}
 use Rattle.cw_types.specs.declared.logs.LogName.{LogName}
 use Rattle.cw_types.specs.declared.logs.DiskName.{DiskName}

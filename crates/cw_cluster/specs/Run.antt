@@ -1,8 +1,11 @@
 -- The run of a script: each line plays its directive, and its answer is a line. A line that is no directive, one that
 -- names a worker or an instance that never was, and a log that is full end it. This project's own.
-use Rattle.std.specs.Prelude.{ℕ, List, [], ◌∷◌, ◌++◌, length, nat_lt, Option, Some, None, Result, Ok, Err, if◌then◌else◌}
+use Rattle.std.specs.Prelude.{ℕ, List, [], ◌∷◌, ◌++◌, length, nat_lt, Option, Some, None, Result, Ok, Err}
+use Rattle.std.specs.Prelude.{if◌then◌else◌}
 use Rattle.cw_script.specs.declared.directive.Directive.{Directive}
-use Rattle.cw_script.specs.declared.directive.Directive.TheVariants.{Init, Commit, Spawn, Kill, Deaf, Hear, Expire, Clock, Tick, Step, Settle, Rest, Held, Member, Take, Compact}
+use Rattle.cw_script.specs.declared.directive.Directive.TheVariants.{Init, Commit, Spawn, Kill, Deaf, Hear, Expire}
+use Rattle.cw_script.specs.declared.directive.Directive.TheVariants.{Clock, Tick, Step, Settle, Rest, Held, Member}
+use Rattle.cw_script.specs.declared.directive.Directive.TheVariants.{Take, Compact}
 use Rattle.cw_script.specs.declared.fault.LineKind.{LineKind}
 use Rattle.cw_script.specs.declared.fault.LineKind.TheVariants.{NoWorker, NoInstance}
 use Rattle.cw_script.specs.Lines.{line_of}

@@ -1,6 +1,7 @@
 -- A cluster settles: workers tick and instances step in turns, until nothing moves any more or enough has moved. Kafka
 -- Connect's workers do so by themselves; that a script has them take turns is this project's own.
-use Rattle.std.specs.Prelude.{ℕ, zero, suc, ◌+◌, ◌==◌, ◌&&◌, ◌||◌, Bool, true, false, not, List, [], ◌∷◌, length, nat_lt, Option, Some, None, is_none, Result, Ok, Err, codes, decimal, if◌then◌else◌}
+use Rattle.std.specs.Prelude.{ℕ, zero, suc, ◌+◌, ◌==◌, ◌&&◌, ◌||◌, Bool, true, false, not, List, [], ◌∷◌, length}
+use Rattle.std.specs.Prelude.{nat_lt, Option, Some, None, is_none, Result, Ok, Err, codes, decimal, if◌then◌else◌}
 use Rattle.std.specs.List.{fold, list_all, range_with_len}
 use Rattle.cw_model.specs.declared.did.Did.{Did}
 use Rattle.cw_model.specs.declared.did.Did.TheVariants as did

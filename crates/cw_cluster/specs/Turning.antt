@@ -21,8 +21,8 @@ use Rattle.cw_cluster.specs.Settling.{Settled, settled, ticks, steps, is_rest}
 
 -- ---- one turn
 
--- it was done or refused; or memory is wanting, and nothing has changed; or a disk failed; or an outlet failed, and what
--- was to be written there was cut off
+-- it was done or refused; or memory is wanting, and nothing has changed; or a disk failed; or an outlet failed, and
+-- what was to be written there was cut off
 abbrev pub IsTurn : {A : Type 0} → (broken : Ran → Cluster → Type 0) → (cut : Ran → Ran → Type 0) → RanAnswer A →
     (old new : Ran) → Result A TurnFault → Type 0
 IsTurn broken cut turn old new (Ok x) = turn ≡ (Ok x, new)
@@ -96,8 +96,8 @@ pub record IsStage (turns : Turns) (most from : ℕ) (r t : Ran) : Type 0 where
   pub within : moved ≤ most
   pub is : turns moved (moved_to from r) ≡ moved_to moved t
 
--- Fewer have, and the delivery of an instance was cut off in its step. Where files are told and no disk has failed, that
--- is the next that moves something.
+-- Fewer have, and the delivery of an instance was cut off in its step. Where files are told and no disk has failed,
+-- that is the next that moves something.
 pub record IsCutStage (setting : Setting) (turns : Turns) (most from : ℕ) (r t : Ran) : Type 0 where
   pub moved : ℕ
   pub at : Ran

@@ -6,7 +6,8 @@ ghost use Rattle.cw_model.specs.Cases.{empty_cluster};
 ghost use Rattle.cw_model.specs.WorkedCases.{setting};
 ghost use Rattle.cw_lines.specs.declared.end.DriveEnd.TheVariants.{BadScript, Full};
 ghost use Rattle.cw_cluster.specs.Run.{run};
-ghost use Rattle.cw_cluster.specs.Scripts.{lines, wanted, IsAnswered, played_with, empty_feeds, worn, out_of_offsets, creation};
+ghost use Rattle.cw_cluster.specs.Scripts.{lines, wanted, IsAnswered, played_with, empty_feeds, worn, out_of_offsets};
+ghost use Rattle.cw_cluster.specs.Scripts.{creation};
 ghost use Rattle.cw_cluster.specs.Scripts.{producers, member, killed, created, settled, altered, zombie, compacted};
 
 /// A producer is judged by its epoch (KIP-98), and then by the ends of the parts that it commits.

@@ -168,8 +168,8 @@ impl<K: Begun, D: Disk, U: Outlet> Player<K, D, U> {
     // Says whether it is quiet, and how often something moved.
     fn say_moved(&mut self, moved: u64) -> Result<(), DriveEnd>
         ensures running { self.new.running ≡ self.old.running }
-        ensures says { Says (Ok (moved_text self.old.running.world.setting moved self.old.running.world.state)) self.old.answers
-            self.new.answers result }
+        ensures says { Says (Ok (moved_text self.old.running.world.setting moved self.old.running.world.state))
+            self.old.answers self.new.answers result }
     {
         let running = &self.running;
         let quiet = is_quiet(running.alloc, running)?;

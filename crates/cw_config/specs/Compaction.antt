@@ -1,7 +1,8 @@
 -- Compaction of the config log, as Kafka's compacted topics have it: of each key the last record stays. Only keys are
 -- looked at, never values, so a record without a value stays, too. That nothing goes from where a set of tasks still
 -- waits for its commit is this project's own.
-use Rattle.std.specs.Prelude.{◌≡◌, ℕ, ◌+◌, Bool, false, not, ◌||◌, nat_le, List, length, take, Option, Some, None, option_map, IsSome, true, ◌++◌, if◌then◌else◌}
+use Rattle.std.specs.Prelude.{◌≡◌, ℕ, ◌+◌, Bool, false, not, ◌||◌, nat_le, List, length, take, Option, Some, None}
+use Rattle.std.specs.Prelude.{option_map, IsSome, true, ◌++◌, if◌then◌else◌}
 use Rattle.std.specs.Option.{option_map_or}
 use Rattle.std.specs.List.{filter_map, fold, list_any, range_with_len, AllByRecursion}
 use Rattle.cw_types.specs.declared.ids.TaskId.{TaskId}
@@ -11,7 +12,8 @@ use Rattle.cw_keys.specs.ConfigKeys.{config_key}
 use Rattle.cw_keys.specs.declared.config_key.ConfigKey.{ConfigKey}
 use Rattle.cw_keys.specs.declared.config_key.ConfigKey.TheVariants as key
 use Rattle.cw_config.specs.declared.records.ConfigRecord.{ConfigRecord}
-use Rattle.cw_config.specs.View.{config_of, target_of, generation_of, task_count_of, fenced_count_of, task_of, deferred_of, is_pending, is_behind}
+use Rattle.cw_config.specs.View.{config_of, target_of, generation_of, task_count_of, fenced_count_of, task_of}
+use Rattle.cw_config.specs.View.{deferred_of, is_pending, is_behind}
 use Rattle.cw_config.specs.Acceptance.{end_of, record_of, may_follow}
 
 -- ---- which records stay

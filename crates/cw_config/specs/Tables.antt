@@ -1,7 +1,8 @@
 -- What the tables keep of the records, so that no look-up walks them: of each key what its last record says, and
 -- of a task whose last record waits for a commit, what the last one says that was committed. Internal: no public
 -- contract cites this.
-use Rattle.std.specs.Prelude.{◌≡◌, ◌≤◌, ℕ, ◌+◌, Bool, true, List, [], ◌∷◌, Option, Some, None, IsSome, is_some, option_map, option_and_then, nat_lt, if◌then◌else◌}
+use Rattle.std.specs.Prelude.{◌≡◌, ◌≤◌, ℕ, ◌+◌, Bool, true, List, [], ◌∷◌, Option, Some, None, IsSome, is_some}
+use Rattle.std.specs.Prelude.{option_map, option_and_then, nat_lt, if◌then◌else◌}
 use Rattle.std.specs.Bool.{⊤}
 use Rattle.std.specs.List.{list_all, range_with_len}
 use Rattle.std.specs.BTreeMap.{BTreeMap, get}

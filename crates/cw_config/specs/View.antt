@@ -1,11 +1,13 @@
 -- What the records of the config log say of a connector (Connect's config topic; KIP-618 for fences, KIP-875 for
 -- target states). A set of tasks takes effect with the commit behind it; a fence counts for the task sets committed
 -- before it.
-use Rattle.std.specs.Prelude.{ℕ, ◌&&◌, Bool, true, false, not, nat_lt, List, Option, Some, None, is_some, unwrap_or, option_map, option_and_then, if◌then◌else◌}
+use Rattle.std.specs.Prelude.{ℕ, ◌&&◌, Bool, true, false, not, nat_lt, List, Option, Some, None, is_some, unwrap_or}
+use Rattle.std.specs.Prelude.{option_map, option_and_then, if◌then◌else◌}
 use Rattle.cw_types.specs.declared.ids.TaskId.{TaskId}
 use Rattle.cw_keys.specs.declared.target.Target.{Target}
 use Rattle.cw_keys.specs.declared.target.Target.TheVariants.{Started}
-use Rattle.cw_keys.specs.declared.config_key.ConfigKey.TheVariants.{Connector, Task, Commit, Target as TargetState, Fencing}
+use Rattle.cw_keys.specs.declared.config_key.ConfigKey.TheVariants.{Connector, Task, Commit, Target as TargetState}
+use Rattle.cw_keys.specs.declared.config_key.ConfigKey.TheVariants.{Fencing}
 use Rattle.cw_keys.specs.declared.config_value.ConfigValue.{ConfigValue}
 use Rattle.cw_keys.specs.declared.config_value.ConfigValue.TheVariants as value
 use Rattle.cw_config.specs.declared.records.ConfigRecord.{ConfigRecord}

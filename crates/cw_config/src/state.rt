@@ -1,6 +1,7 @@
 //! The state that the config log's records build up.
 ghost use Rattle.std.specs.Prelude.{◌≡◌, [], ℕ, true, None, Some, Err, IfOk, OnOk, OnErr, IfErr, nat_le, option_map};
-ghost use Rattle.cw_config.specs.View.{config_of, target_of, generation_of, task_count_of, fenced_count_of, task_of, deferred_of, is_pending};
+ghost use Rattle.cw_config.specs.View.{config_of, target_of, generation_of, task_count_of, fenced_count_of, task_of};
+ghost use Rattle.cw_config.specs.View.{deferred_of, is_pending};
 ghost use Rattle.cw_config.specs.Acceptance.{applied, next_of, end_of, has_tasks, is_backed, may_follow};
 ghost use Rattle.cw_config.specs.Connectors.{AreConnectors};
 

@@ -1,5 +1,6 @@
 //! What is kept of the records, so that no look-up walks them.
-ghost use Rattle.std.specs.Prelude.{◌≡◌, ℕ, List, ◌++◌, ◌∷◌, [], true, None, Some, IfOk, OnOk, IsSome, option_copied, option_map, option_and_then, is_some, if◌then◌else◌};
+ghost use Rattle.std.specs.Prelude.{◌≡◌, ℕ, List, ◌++◌, ◌∷◌, [], true, None, Some, IfOk, OnOk, IsSome, option_copied};
+ghost use Rattle.std.specs.Prelude.{option_map, option_and_then, is_some, if◌then◌else◌};
 ghost use Rattle.std.specs.BTreeMap.{get, is_at};
 ghost use Rattle.cw_types.specs.Order.{name_cmp};
 ghost use Rattle.cw_types.specs.declared.ids.TaskId.{TaskId};
@@ -49,7 +50,9 @@ pub struct Tables {
 }
 
 ghost use Rattle.cw_config.specs.declared.tables.Tables.{Tables};
-ghost use Rattle.cw_config.specs.Tables.{value_in, offset_in, is_later, if_later, committed_in, deferred_in, row_behind, named_at, task_at, task_order, generation_at, is_deferred, have_tasks, HasRow, SameRows, KeepsRows, Keeps, Puts};
+ghost use Rattle.cw_config.specs.Tables.{value_in, offset_in, is_later, if_later, committed_in, deferred_in};
+ghost use Rattle.cw_config.specs.Tables.{row_behind, named_at, task_at, task_order, generation_at, is_deferred};
+ghost use Rattle.cw_config.specs.Tables.{have_tasks, HasRow, SameRows, KeepsRows, Keeps, Puts};
 
 /// The properties that a row says.
 pub fn properties_at(row: Option<&Stored>) -> Option<&Props>

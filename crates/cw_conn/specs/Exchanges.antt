@@ -1,7 +1,8 @@
 -- What is said on a connection (RFC 9112, 9.3): the peer's requests stand one behind the other, each is answered by an
 -- entry of the journal, and the entry's reply is written before the next request is read. That a connection closes
 -- behind its 100th reply is this project's own rule.
-use Rattle.std.specs.Prelude.{◌≡◌, ℕ, ◌+◌, ◌<◌, ◌==◌, ◌||◌, Bool, false, List, [], ◌∷◌, ◌++◌, length, map, Option, Result, Ok, Err}
+use Rattle.std.specs.Prelude.{◌≡◌, ℕ, ◌+◌, ◌<◌, ◌==◌, ◌||◌, Bool, false, List, [], ◌∷◌, ◌++◌, length, map, Option}
+use Rattle.std.specs.Prelude.{Result, Ok, Err}
 use Rattle.std.specs.List.{AllByRecursion}
 use Rattle.cw_route.specs.Calls.{call_of}
 use Rattle.cw_route.specs.declared.call.Call.{Call}

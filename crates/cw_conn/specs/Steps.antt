@@ -3,7 +3,8 @@ use Rattle.std.specs.Prelude.{◌≡◌, ℕ, List, [], ◌∷◌, ◌++◌}
 use Rattle.cw_io.specs.Told.{with_back}
 use Rattle.cw_http.specs.Kept.{IsTaken}
 use Rattle.cw_http.specs.Replies.{reply_text}
-use Rattle.cw_conn.specs.Exchanges.{Exchange, requests_of, entries_of, AreAnswered, Stand, shuts, reply_texts, asked_call, GoesOn}
+use Rattle.cw_conn.specs.Exchanges.{Exchange, requests_of, entries_of, AreAnswered, Stand, shuts, reply_texts}
+use Rattle.cw_conn.specs.Exchanges.{asked_call, GoesOn}
 use Rattle.cw_conn.specs.Talked.{Moment}
 
 -- behind so many exchanges, a request was read, the desk answered it by an entry, and the reply was written

@@ -13,7 +13,8 @@ use Rattle.cw_open.specs.OpenedFrom.{DisksStay}
 use Rattle.cw_words.specs.declared.command.Options.{Options}
 use Rattle.cw_connect.specs.declared.status.Status.{Status}
 use Rattle.cw_connect.specs.declared.status.Status.TheVariants.{Done, Usage, BadScript, TooLong, ReadFault, WriteFault}
-use Rattle.cw_connect.specs.declared.status.Status.TheVariants.{StoreFault, Damaged, ShelfFault, OutletFault, Full, Memory}
+use Rattle.cw_connect.specs.declared.status.Status.TheVariants.{StoreFault, Damaged, ShelfFault, OutletFault, Full}
+use Rattle.cw_connect.specs.declared.status.Status.TheVariants.{Memory}
 
 -- a fact of the report on the state that the disks held and on the feeds that were loaded, which are those of the
 -- shelf, where it tells them

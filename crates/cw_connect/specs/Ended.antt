@@ -25,7 +25,8 @@ use Rattle.cw_connect.specs.Making.{AreMade, AreUnmade}
 use Rattle.cw_connect.specs.Opening.{IsSetFor, IsOpenedFrom}
 use Rattle.cw_connect.specs.Outcomes.{IsRefusedFor, IsRun}
 use Rattle.cw_connect.specs.declared.status.Status.{Status}
-use Rattle.cw_connect.specs.declared.status.Status.TheVariants.{Done, Usage, ReadFault, WriteFault, StoreFault, Damaged, ShelfFault, OutletFault, Memory}
+use Rattle.cw_connect.specs.declared.status.Status.TheVariants.{Done, Usage, ReadFault, WriteFault, StoreFault, Damaged}
+use Rattle.cw_connect.specs.declared.status.Status.TheVariants.{ShelfFault, OutletFault, Memory}
 
 -- what the program is handed, and gives back
 pub record Handed (D I O H U : Type 0) : Type 0 where

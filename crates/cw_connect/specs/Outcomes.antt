@@ -22,7 +22,8 @@ use Rattle.cw_connect.specs.Opening.{IsSetFor, IsOpenedFrom}
 use Rattle.cw_connect.specs.Statuses.{status_of_end}
 use Rattle.cw_connect.specs.declared.status.Status.{Status}
 use Rattle.cw_connect.specs.declared.status.Status.TheVariants.{Done, Usage, BadScript, TooLong, ReadFault, WriteFault}
-use Rattle.cw_connect.specs.declared.status.Status.TheVariants.{StoreFault, Damaged, ShelfFault, OutletFault, Full, Memory}
+use Rattle.cw_connect.specs.declared.status.Status.TheVariants.{StoreFault, Damaged, ShelfFault, OutletFault, Full}
+use Rattle.cw_connect.specs.declared.status.Status.TheVariants.{Memory}
 
 -- what was left of the disks where the run ended before a cluster was opened: where the shelf failed they weren't
 -- touched, and else a stop leaves of each what it might have left before, or a file of the same list

@@ -13,7 +13,8 @@ use Rattle.cw_words.specs.declared.command.WordsFault.{WordsFault}
 use Rattle.cw_words.specs.declared.command.WordsFault.TheVariants as words
 use Rattle.cw_connect.specs.declared.status.Status.{Status}
 use Rattle.cw_connect.specs.declared.status.Status.TheVariants.{Done, Usage, BadScript, TooLong, ReadFault, WriteFault}
-use Rattle.cw_connect.specs.declared.status.Status.TheVariants.{StoreFault, Damaged, ShelfFault, OutletFault, Full, Memory}
+use Rattle.cw_connect.specs.declared.status.Status.TheVariants.{StoreFault, Damaged, ShelfFault, OutletFault, Full}
+use Rattle.cw_connect.specs.declared.status.Status.TheVariants.{Memory}
 
 -- the exit status
 abbrev pub status_number : Status → ℕ

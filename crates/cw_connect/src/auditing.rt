@@ -8,7 +8,8 @@ ghost use Rattle.cw_open.specs.Leaving.{StandForLists};
 ghost use Rattle.cw_open.specs.Reopened.{DiskFiles, FailedAt, NoneFell, TellAll, disk_in};
 ghost use Rattle.cw_types.specs.Faults.{Rose};
 ghost use Rattle.cw_types.specs.declared.logs.DiskName.{DiskName};
-ghost use Rattle.cw_connect.specs.declared.status.Status.TheVariants.{Done, StoreFault, Damaged, ShelfFault, WriteFault, Memory};
+ghost use Rattle.cw_connect.specs.declared.status.Status.TheVariants.{Done, StoreFault, Damaged, ShelfFault};
+ghost use Rattle.cw_connect.specs.declared.status.Status.TheVariants.{WriteFault, Memory};
 ghost use Rattle.cw_connect.specs.Audited.{IsAudited};
 ghost use Rattle.cw_connect.specs.Outcomes.{IsRefusedFor};
 

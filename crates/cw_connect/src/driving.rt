@@ -5,7 +5,8 @@ ghost use Rattle.cw_open.specs.Judged.{HasFirstHarm};
 ghost use Rattle.cw_open.specs.Reopened.{DiskFiles, FailedAt, NoneFell, TellAll};
 ghost use Rattle.cw_types.specs.Faults.{Rose};
 ghost use Rattle.cw_types.specs.declared.logs.DiskName.{DiskName};
-ghost use Rattle.cw_connect.specs.declared.status.Status.TheVariants.{Done, Usage, ReadFault, WriteFault, StoreFault, Damaged, ShelfFault, OutletFault};
+ghost use Rattle.cw_connect.specs.declared.status.Status.TheVariants.{Done, Usage, ReadFault, WriteFault, StoreFault};
+ghost use Rattle.cw_connect.specs.declared.status.Status.TheVariants.{Damaged, ShelfFault, OutletFault};
 ghost use Rattle.cw_connect.specs.Making.{AreMade, AreUnmade};
 ghost use Rattle.cw_connect.specs.Outcomes.{IsRun};
 

@@ -56,7 +56,8 @@ fn tell<E: Sink>(status: &Status, errors: &mut E) -> Result<(), Failed>
 
 // Writes the line of a script's fault.
 fn tell_bad_script<E: Sink>(line: u64, kind: LineKind, errors: &mut E) -> Result<(), Failed>
-    ensures whole { OnOk result (E.held errors.new ≡ with_back (status_line (BadScript line kind)) (E.held errors.old)) }
+    ensures whole { OnOk result
+        (E.held errors.new ≡ with_back (status_line (BadScript line kind)) (E.held errors.old)) }
     ensures rose { OnErr result (Rose (E.faults errors.old) (E.faults errors.new)) }
 {
     let mut digits = itoa::Buffer::new();

@@ -94,11 +94,11 @@ pub fn connect<R: AllocGlobal, D: Disk, I: Source, O: Sink, H: Shelf, U: Outlet>
         AreFacts setting left.cluster }
 
     // Where a disk failed in a line, all facts hold in the state before the event that was in flight, and behind it.
-    ensures before_flight { (setting : Setting) (line : List ℕ) (directive : Directive) (ran at : Ran) (next : Cluster) →
-        HaveNames setting → AreFacts setting ran.cluster → line_of line ≡ Ok (Some directive) →
+    ensures before_flight { (setting : Setting) (line : List ℕ) (directive : Directive) (ran at : Ran)
+        (next : Cluster) → HaveNames setting → AreFacts setting ran.cluster → line_of line ≡ Ok (Some directive) →
         IsInFlight setting directive ran at next → AreFacts setting at.cluster }
-    ensures behind_flight { (setting : Setting) (line : List ℕ) (directive : Directive) (ran at : Ran) (next : Cluster) →
-        HaveNames setting → AreFacts setting ran.cluster → line_of line ≡ Ok (Some directive) →
+    ensures behind_flight { (setting : Setting) (line : List ℕ) (directive : Directive) (ran at : Ran)
+        (next : Cluster) → HaveNames setting → AreFacts setting ran.cluster → line_of line ≡ Ok (Some directive) →
         IsInFlight setting directive ran at next → AreFacts setting next }
 
     // Whatever files stand for the logs of such a state have no harm, and open to it, without its workers.

@@ -1,6 +1,7 @@
 -- The data log: batches of records, and markers that say how their transactions ended (KIP-98, control records). That
 -- a topic's offsets are places in one log of all topics, and that markers take none, is this project's own.
-use Rattle.std.specs.Prelude.{ℕ, Bool, false, ◌&&◌, List, [], ◌∷◌, map, take, nat_le, Option, None, Some, is_none, unwrap_or, if◌then◌else◌}
+use Rattle.std.specs.Prelude.{ℕ, Bool, false, ◌&&◌, List, [], ◌∷◌, map, take, nat_le, Option, None, Some, is_none}
+use Rattle.std.specs.Prelude.{unwrap_or, if◌then◌else◌}
 use Rattle.std.specs.Option.{option_map, option_or}
 use Rattle.std.specs.List.{flat_map, filter_map, find, position_or_len, enumerate_from}
 use Rattle.std.specs.Str.{bytes_eq}

@@ -1,5 +1,6 @@
 -- What the tables keep of the log, so that no look-up walks it. Internal: no public contract cites this.
-use Rattle.std.specs.Prelude.{◌≡◌, ℕ, ◌+◌, ◌≤◌, Bool, false, List, length, Contains, Option, None, Some, IsSome, unwrap_or, slice_index_or, take, drop, ◌<◌, ◌^◌, if◌then◌else◌, vec_capacity}
+use Rattle.std.specs.Prelude.{◌≡◌, ℕ, ◌+◌, ◌≤◌, Bool, false, List, length, Contains, Option, None, Some, IsSome}
+use Rattle.std.specs.Prelude.{unwrap_or, slice_index_or, take, drop, ◌<◌, ◌^◌, if◌then◌else◌, vec_capacity}
 use Rattle.std.specs.Bool.{⊤}
 use Rattle.std.specs.Option.{option_or}
 use Rattle.std.specs.List.{count_by, list_any}

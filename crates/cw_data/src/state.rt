@@ -1,5 +1,6 @@
 //! The data log.
-ghost use Rattle.std.specs.Prelude.{◌≡◌, ◌<◌, ◌+◌, ◌^◌, ◌≤◌, ◌++◌, ◌∷◌, [], ℕ, List, length, Contains, OnOk, OnErr, IsOk, MatchOption, true, false, option_copied, vec_len, vec_capacity};
+ghost use Rattle.std.specs.Prelude.{◌≡◌, ◌<◌, ◌+◌, ◌^◌, ◌≤◌, ◌++◌, ◌∷◌, [], ℕ, List, length, Contains, OnOk, OnErr};
+ghost use Rattle.std.specs.Prelude.{IsOk, MatchOption, true, false, option_copied, vec_len, vec_capacity};
 ghost use Rattle.std.specs.Option.{option_map};
 ghost use Rattle.cw_data.specs.declared.entry.DataEntry.{DataEntry};
 ghost use Rattle.cw_data.specs.Log.{records, stable, taken, first_unmarked};

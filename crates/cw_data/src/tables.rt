@@ -1,5 +1,6 @@
 //! What the log keeps of its entries, so that no look-up walks them.
-ghost use Rattle.std.specs.Prelude.{◌≡◌, ◌≤◌, ◌<◌, ◌+◌, ◌^◌, ◌++◌, ◌∷◌, [], ℕ, true, false, List, length, take, drop, OnOk, IsSome, Some, option_copied, if◌then◌else◌};
+ghost use Rattle.std.specs.Prelude.{◌≡◌, ◌≤◌, ◌<◌, ◌+◌, ◌^◌, ◌++◌, ◌∷◌, [], ℕ, true, false, List, length, take, drop};
+ghost use Rattle.std.specs.Prelude.{OnOk, IsSome, Some, option_copied, if◌then◌else◌};
 ghost use Rattle.std.specs.List.{count_by};
 ghost use Rattle.std.specs.Str.{bytes_eq};
 ghost use Rattle.std.specs.BTreeMap.{get};
@@ -8,7 +9,8 @@ ghost use Rattle.cw_data.specs.declared.entry.DataEntry.{DataEntry};
 ghost use Rattle.cw_data.specs.declared.topic.Topic.{Topic};
 ghost use Rattle.cw_types.specs.Same.{same_tag, tag_order};
 ghost use Rattle.cw_data.specs.Rows.{Marks, batch_at, WaitsAt, TopicAt, EndsWith};
-ghost use Rattle.cw_data.specs.Tables.{marks_in, name_order, is_in_topic, is_batch_of, NextAt, RoomAt, after_mark, Keeps, HasRows, HasRoom, FitsBehind, entry_of};
+ghost use Rattle.cw_data.specs.Tables.{marks_in, name_order, is_in_topic, is_batch_of, NextAt, RoomAt, after_mark};
+ghost use Rattle.cw_data.specs.Tables.{Keeps, HasRows, HasRoom, FitsBehind, entry_of};
 ghost use Rattle.cw_data.specs.Unmarked.{is_batch_with, HasRoomFor, Roomier};
 
 use crate::entry::{Batch, DataEntry, EntryRef, batch_at};

@@ -1,5 +1,6 @@
 //! What the log keeps of a topic, so that no look-up walks the log.
-ghost use Rattle.std.specs.Prelude.{◌≡◌, ◌≤◌, ◌<◌, ◌+◌, ◌^◌, ◌++◌, ◌∷◌, [], ℕ, List, length, take, drop, OnOk, vec_len, vec_capacity, nat_lt, nat_le, slice_set, slice_index_or, slice_get, Some};
+ghost use Rattle.std.specs.Prelude.{◌≡◌, ◌≤◌, ◌<◌, ◌+◌, ◌^◌, ◌++◌, ◌∷◌, [], ℕ, List, length, take, drop, OnOk, vec_len};
+ghost use Rattle.std.specs.Prelude.{vec_capacity, nat_lt, nat_le, slice_set, slice_index_or, slice_get, Some};
 ghost use Rattle.std.specs.List.{find};
 ghost use Rattle.std.specs.List.Sorted.{IsPartitionedBy};
 ghost use Rattle.cw_data.specs.Log.{records_in, records};

@@ -1,5 +1,6 @@
 //! The batches without marker, so that where a transaction ends none but its own are walked.
-ghost use Rattle.std.specs.Prelude.{◌≡◌, ◌≤◌, ◌<◌, ◌+◌, ◌^◌, ◌++◌, ◌∷◌, [], ℕ, ◌==◌, ◌&&◌, false, List, length, slice_get, OnOk, IsSome, Some, is_none, option_copied, if◌then◌else◌};
+ghost use Rattle.std.specs.Prelude.{◌≡◌, ◌≤◌, ◌<◌, ◌+◌, ◌^◌, ◌++◌, ◌∷◌, [], ℕ, ◌==◌, ◌&&◌, false, List, length};
+ghost use Rattle.std.specs.Prelude.{slice_get, OnOk, IsSome, Some, is_none, option_copied, if◌then◌else◌};
 ghost use Rattle.std.specs.BTreeMap.{get, IsOrdered};
 ghost use Rattle.std.specs.Ordering.{nat_cmp};
 ghost use Rattle.cw_types.specs.declared.ids.Tag.{Tag};

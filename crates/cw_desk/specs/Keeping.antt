@@ -1,5 +1,5 @@
--- What a turn that answers no call leaves as it is: no entry is kept in the journal, and no worker killed. This project's
--- own.
+-- What a turn that answers no call leaves as it is: no entry is kept in the journal, and no worker killed. This
+-- project's own.
 use Rattle.std.specs.Prelude.{◌≡◌, ℕ}
 use Rattle.cw_model.specs.State.{Cluster}
 use Rattle.cw_model.specs.Lookups.{row_of}

@@ -1,5 +1,5 @@
--- A turn: a call of Connect's REST API through a worker is answered, and an entry of it is kept in the journal, with how
--- much of the session lists its reply saw. This project's own, as is the journal.
+-- A turn: a call of Connect's REST API through a worker is answered, and an entry of it is kept in the journal, with
+-- how much of the session lists its reply saw. This project's own, as is the journal.
 use Rattle.std.specs.Prelude.{◌≡◌, ℕ, false, length, Result, Ok, Err}
 use Rattle.std.specs.declared.alloc.AllocError.{AllocError}
 use Rattle.cw_disk.specs.declared.device.Disk.{Ghosts}
@@ -59,7 +59,8 @@ entry_of w call answer found left = entry_in w call (told answer) (seen_state an
 
 -- an entry of a call that found these lengths
 abbrev pub IsEntryOf : ℕ → Call → (found : Lengths) → Result Reply WorldFault → (left : Cluster) → JournalEntry → Type 0
-IsEntryOf w call found answer left entry = (s : Cluster) → found ≡ lengths_in w call s → entry ≡ entry_of w call answer s left
+IsEntryOf w call found answer left entry =
+    (s : Cluster) → found ≡ lengths_in w call s → entry ≡ entry_of w call answer s left
 
 -- ---- the turn
 

@@ -1,6 +1,7 @@
 //! Whether the receipts that were kept are the journal. It takes no memory, so that a run which is out of memory can
 //! still ask.
-ghost use Rattle.std.specs.Prelude.{◌≡◌, ◌≢◌, ℕ, ◌+◌, ◌-◌, ◌<◌, [], length, vec_len, IfSome, IfNone, IfOk, IfErr, MatchBool, Some, slice_get, slice_index_or};
+ghost use Rattle.std.specs.Prelude.{◌≡◌, ◌≢◌, ℕ, ◌+◌, ◌-◌, ◌<◌, [], length, vec_len, IfSome, IfNone, IfOk, IfErr};
+ghost use Rattle.std.specs.Prelude.{MatchBool, Some, slice_get, slice_index_or};
 ghost use Rattle.std.specs.List.Sorted.{IsPermutation, IsNonDecreasingBy};
 ghost use Rattle.cw_world.specs.Receipts.{ReceiptState};
 ghost use Rattle.cw_desk.specs.Comparing.{AreTheJournal, Disagrees, IsFound, receipts_in, NoneTwice, NoneElsewhere};
@@ -29,8 +30,8 @@ pub enum Member {
     Receipt(Receipt),
 }
 
-/// The receipts in the order of their numbers where they are the journal, each entry once at its number; else what shows
-/// that they aren't. They are as many as the journal has entries.
+/// The receipts in the order of their numbers where they are the journal, each entry once at its number; else what
+/// shows that they aren't. They are as many as the journal has entries.
 pub fn compare(
     journal: &[JournalEntry],
     mut receipts: Vec<Receipt>,

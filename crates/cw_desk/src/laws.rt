@@ -11,8 +11,8 @@ ghost use Rattle.cw_model.specs.Steps.{step as task_step};
 ghost use Rattle.cw_model.specs.Tick.{tick};
 ghost use Rattle.cw_desk.specs.Keeping.{KeepsJournal};
 
-/// Only a call is kept in the journal, and no turn of a herder, a task or a cleaner kills a worker: a tick, a task's step,
-/// an expiry, a compaction, the clock and a failed disk leave the journal and the workers that live.
+/// Only a call is kept in the journal, and no turn of a herder, a task or a cleaner kills a worker: a tick, a task's
+/// step, an expiry, a compaction, the clock and a failed disk leave the journal and the workers that live.
 pub fn turns_keep_the_journal()
     ensures tick { (setting : Setting) (s : Cluster) (w : ℕ) → AreFacts setting s → KeepsJournal s (tick w s).1 }
     ensures task_step { (setting : Setting) (s : Cluster) (i : ℕ) → AreFacts setting s →

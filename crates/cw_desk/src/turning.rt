@@ -15,8 +15,8 @@ use cw_rows::Cluster;
 use cw_world::{Receipt, World};
 use std::alloc::{AllocError, Global};
 
-/// A call through a worker that lives is answered and kept in the journal: one that a failed disk, a full log or want of
-/// memory stops is told so. The receipt shows its entry, with how much of the session lists the reply saw. The only
+/// A call through a worker that lives is answered and kept in the journal: one that a failed disk, a full log or want
+/// of memory stops is told so. The receipt shows its entry, with how much of the session lists the reply saw. The only
 /// error is want of memory, which keeps nothing; the call may then have been done, or have stopped behind its write.
 pub fn turn<D: Disk>(
     alloc: Global,
@@ -88,7 +88,8 @@ fn entry_of_fault(
     fault: &WorldFault,
 ) -> Result<JournalEntry, AllocError>
     requires { w < length cluster.now.state.rows }
-    ensures { IfOk result (λ entry. entry ≡ entry_with w call (fault_reply fault.now) (lengths_in w call cluster.now.state)) }
+    ensures { IfOk result (λ entry.
+        entry ≡ entry_with w call (fault_reply fault.now) (lengths_in w call cluster.now.state)) }
 {
     let reply = fault_reply(alloc, fault)?;
     match lengths_now(cluster, w, &call) {

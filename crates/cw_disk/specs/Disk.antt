@@ -1,7 +1,8 @@
 -- What the calls of a disk do to its bytes, and what a stop of the machine may leave of them (this project's own disk
 -- model). Between two syncs each range that was written or cut, and the part past the old end, may hold any bytes; all
 -- other bytes stay. The length that a stop leaves is any from the least to the greatest since the last sync.
-use Rattle.std.specs.Prelude.{◌≡◌, ◌≤◌, ◌⊎◌, ◌+◌, ◌-◌, ◌^◌, max, min, ℕ, List, [], ◌∷◌, ◌++◌, length, take, drop, Bool, Option, Some, None}
+use Rattle.std.specs.Prelude.{◌≡◌, ◌≤◌, ◌⊎◌, ◌+◌, ◌-◌, ◌^◌, max, min, ℕ, List, [], ◌∷◌, ◌++◌, length, take, drop, Bool}
+use Rattle.std.specs.Prelude.{Option, Some, None}
 
 -- the file with these bytes at this place
 abbrev pub written : {A : Type 0} → List A → ℕ → List A → List A

@@ -1,7 +1,8 @@
 -- Which file of the folder `connect-data` a disk is: the file has the name of the disk (this project's own format).
 use Rattle.std.specs.Prelude.{ℕ, List, codes, ◌≡◌}
 use Rattle.cw_types.specs.declared.logs.DiskName.{DiskName}
-use Rattle.cw_types.specs.declared.logs.DiskName.TheVariants.{ConfigA, ConfigB, OffsetsA, OffsetsB, StatusA, StatusB, Txn, Batches}
+use Rattle.cw_types.specs.declared.logs.DiskName.TheVariants.{ConfigA, ConfigB, OffsetsA, OffsetsB, StatusA, StatusB}
+use Rattle.cw_types.specs.declared.logs.DiskName.TheVariants.{Txn, Batches}
 use Rattle.cw_disk.specs.declared.disks.Disks.{Disks}
 
 -- where the file of a disk lies

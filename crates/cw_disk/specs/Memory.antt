@@ -1,7 +1,8 @@
 -- What a stop may leave of a disk in memory (this project's own disk model, byte by byte): some length between the
 -- least and the greatest since the last sync, and at each place that was neither written nor cut since then the byte
 -- as read.
-use Rattle.std.specs.Prelude.{◌≡◌, ◌≤◌, ◌<◌, ◌⊎◌, ◌==◌, ℕ, List, [], ◌∷◌, length, take, drop, map, Bool, true, false, if◌then◌else◌, slice_index_or, vec_capacity, ◌-◌, min, not, replicate, nat_le, Some, ◌||◌}
+use Rattle.std.specs.Prelude.{◌≡◌, ◌≤◌, ◌<◌, ◌⊎◌, ◌==◌, ℕ, List, [], ◌∷◌, length, take, drop, map, Bool, true, false}
+use Rattle.std.specs.Prelude.{if◌then◌else◌, slice_index_or, vec_capacity, ◌-◌, min, not, replicate, nat_le, Some, ◌||◌}
 use mathlib.Core.Logic.{inl, inr}
 use Rattle.std.specs.List.{range_with_len, list_any}
 use Rattle.cw_disk.specs.Disk.{written, Plan}

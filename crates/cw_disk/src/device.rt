@@ -1,5 +1,6 @@
 // A disk as a log sees it.
-ghost use Rattle.std.specs.Prelude.{◌≡◌, ◌≤◌, ◌<◌, ◌+◌, ◌-◌, ◌^◌, List, ℕ, [], ◌∷◌, Option, Some, length, take, drop, min, IfOk, OnOk, OnErr, is_some, is_err, option_map};
+ghost use Rattle.std.specs.Prelude.{◌≡◌, ◌≤◌, ◌<◌, ◌+◌, ◌-◌, ◌^◌, List, ℕ, [], ◌∷◌, Option, Some, length, take, drop};
+ghost use Rattle.std.specs.Prelude.{min, IfOk, OnOk, OnErr, is_some, is_err, option_map};
 ghost use Rattle.cw_disk.specs.Disk.{Only, Follows, Torn, Cut, IsFirstByte, written, GoesOn, Plan, GoesAsPlanned};
 ghost use Rattle.cw_types.specs.Faults.{Rose};
 

@@ -1,5 +1,6 @@
 // What a disk in memory keeps beside its bytes, so that the images of a stop can be read off.
-ghost use Rattle.std.specs.Prelude.{◌≡◌, ◌≤◌, ◌<◌, ◌+◌, ◌-◌, List, ℕ, [], ◌∷◌, length, take, min, max, Bool, true, false, vec_len, vec_capacity, replicate, IfOk, OnOk, if◌then◌else◌, slice_index_or};
+ghost use Rattle.std.specs.Prelude.{◌≡◌, ◌≤◌, ◌<◌, ◌+◌, ◌-◌, List, ℕ, [], ◌∷◌, length, take, min, max, Bool, true};
+ghost use Rattle.std.specs.Prelude.{false, vec_len, vec_capacity, replicate, IfOk, OnOk, if◌then◌else◌, slice_index_or};
 ghost use Rattle.cw_disk.specs.Disk.{written};
 ghost use Rattle.cw_disk.specs.Memory.{is_first_byte, noise};
 

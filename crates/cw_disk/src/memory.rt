@@ -1,8 +1,10 @@
 // A disk in memory.
-ghost use Rattle.std.specs.Prelude.{◌≡◌, ◌≤◌, ◌<◌, ◌+◌, ◌++◌, ◌∷◌, List, ℕ, Option, Some, [], length, OnOk, OnErr, IfOk, Bool, true, false, min, take, drop, ◌-◌, ◌^◌, is_err};
+ghost use Rattle.std.specs.Prelude.{◌≡◌, ◌≤◌, ◌<◌, ◌+◌, ◌++◌, ◌∷◌, List, ℕ, Option, Some, [], length, OnOk, OnErr};
+ghost use Rattle.std.specs.Prelude.{IfOk, Bool, true, false, min, take, drop, ◌-◌, ◌^◌, is_err};
 ghost use Rattle.std.proofs.Common.{inl};
 ghost use Rattle.cw_types.specs.Faults.{Rose};
-ghost use Rattle.cw_disk.specs.Memory.{MemState, Leaves, LeftSince, only_this, as_it_reads, image_of, is_planned, plan_of};
+ghost use Rattle.cw_disk.specs.Memory.{MemState, Leaves, LeftSince, only_this, as_it_reads, image_of, is_planned};
+ghost use Rattle.cw_disk.specs.Memory.{plan_of};
 
 use crate::{Disk, Failed, Held, Memory};
 use cw_types::Past;

@@ -1,6 +1,7 @@
 -- What a source yields between two positions. A position in a feed is a count of bytes, and a record is a line (Kafka
 -- Connect's FileStreamSourceTask); a position in a sequence is a count of records, each a text (this project's own).
-use Rattle.std.specs.Prelude.{◌≡◌, ◌≢◌, ◌-◌, ◌<◌, ◌≤◌, ℕ, List, [], ◌∷◌, ◌++◌, length, take, drop, map, All, slice_index, decimal, codes}
+use Rattle.std.specs.Prelude.{◌≡◌, ◌≢◌, ◌-◌, ◌<◌, ◌≤◌, ℕ, List, [], ◌∷◌, ◌++◌, length, take, drop, map, All}
+use Rattle.std.specs.Prelude.{slice_index, decimal, codes}
 use Rattle.std.specs.List.{range_with_len}
 use Rattle.cw_io.specs.Shelf.{Files}
 use Rattle.cw_types.specs.declared.ids.PartKey.{PartKey}

@@ -1,6 +1,7 @@
 //! Where a poll of a source cuts.
 ghost use Rattle.std.specs.Prelude.{◌≡◌, ◌+◌, ◌-◌, ◌<◌, ◌≤◌, length, drop, take, MatchOption};
-ghost use Rattle.cw_feed.specs.Cut.{line_lengths, LineEndsIn, NoLineEndsIn, fitting, longest_line, most_bytes, cut_of_feed, cut_of_sequence};
+ghost use Rattle.cw_feed.specs.Cut.{line_lengths, LineEndsIn, NoLineEndsIn, fitting, longest_line, most_bytes};
+ghost use Rattle.cw_feed.specs.Cut.{cut_of_feed, cut_of_sequence};
 
 use memchr::memchr;
 

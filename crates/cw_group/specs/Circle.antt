@@ -1,5 +1,6 @@
 -- A group over time: what departed members held waits through the scheduled delay of KIP-415, and then is free.
-use Rattle.std.specs.Prelude.{◌≡◌, ℕ, ◌+◌, ◌-◌, ◌^◌, min, Bool, true, false, nat_le, List, [], ◌∷◌, ◌++◌, Ok, if◌then◌else◌}
+use Rattle.std.specs.Prelude.{◌≡◌, ℕ, ◌+◌, ◌-◌, ◌^◌, min, Bool, true, false, nat_le, List, [], ◌∷◌, ◌++◌, Ok}
+use Rattle.std.specs.Prelude.{if◌then◌else◌}
 use Rattle.cw_types.specs.declared.ids.Item.{Item}
 use Rattle.cw_assign.specs.declared.delay.Delay.{Delay}
 use Rattle.cw_assign.specs.declared.delay.Delay.TheVariants.{Idle, Until}

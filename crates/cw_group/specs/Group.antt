@@ -1,6 +1,7 @@
 -- A group and what each call does to it: the first refusal, or the answer and the group after it (Kafka's group
 -- membership, rounds as in KIP-415).
-use Rattle.std.specs.Prelude.{◌≡◌, ◌≢◌, ℕ, ◌+◌, ◌-◌, ◌^◌, ◌==◌, not, min, Bool, false, List, [], ◌++◌, map, Option, Some, None, Result, Ok, Err, MatchResult, unwrap_or, if◌then◌else◌}
+use Rattle.std.specs.Prelude.{◌≡◌, ◌≢◌, ℕ, ◌+◌, ◌-◌, ◌^◌, ◌==◌, not, min, Bool, false, List, [], ◌++◌, map, Option}
+use Rattle.std.specs.Prelude.{Some, None, Result, Ok, Err, MatchResult, unwrap_or, if◌then◌else◌}
 use Rattle.std.specs.List.{find}
 use Rattle.cw_types.specs.declared.ids.Item.{Item}
 use Rattle.cw_assign.specs.declared.share.Share.{Share}
@@ -11,10 +12,12 @@ use Rattle.cw_group.specs.declared.member.Member.{Member}
 use Rattle.cw_group.specs.declared.answers.Phase.{Phase}
 use Rattle.cw_group.specs.declared.answers.Phase.TheVariants.{Open, Closed, Planned}
 use Rattle.cw_group.specs.declared.answers.GroupFault.{GroupFault}
-use Rattle.cw_group.specs.declared.answers.GroupFault.TheVariants.{Unknown, NotClaimed, AlreadyJoined, Missing, NoPlan, NotLeader, OldGeneration, Memory}
+use Rattle.cw_group.specs.declared.answers.GroupFault.TheVariants.{Unknown, NotClaimed, AlreadyJoined, Missing, NoPlan}
+use Rattle.cw_group.specs.declared.answers.GroupFault.TheVariants.{NotLeader, OldGeneration, Memory}
 use Rattle.cw_group.specs.declared.answers.Synced.{Synced}
 use Rattle.cw_group.specs.Phases.{is_open, is_closed}
-use Rattle.cw_group.specs.Members.{new_member, unjoined, joined_with, member_of, with_member, without, with_change, with_shares, lowest_in, lowest_missing_in, holders_of}
+use Rattle.cw_group.specs.Members.{new_member, unjoined, joined_with, member_of, with_member, without, with_change}
+use Rattle.cw_group.specs.Members.{with_shares, lowest_in, lowest_missing_in, holders_of}
 
 -- a group
 pub record GroupState : Type 0 where

@@ -1,5 +1,6 @@
 //! The group, what departed members held, and the time.
-ghost use Rattle.std.specs.Prelude.{◌≡◌, ◌≢◌, ◌<◌, ◌≤◌, ◌+◌, ◌++◌, ◌∷◌, [], ℕ, length, max, Ok, Err, IfOk, OnErr, MatchResult, OnOk, if◌then◌else◌, vec_len, vec_capacity};
+ghost use Rattle.std.specs.Prelude.{◌≡◌, ◌≢◌, ◌<◌, ◌≤◌, ◌+◌, ◌++◌, ◌∷◌, [], ℕ, length, max, Ok, Err, IfOk, OnErr};
+ghost use Rattle.std.specs.Prelude.{MatchResult, OnOk, if◌then◌else◌, vec_len, vec_capacity};
 ghost use Rattle.std.specs.List.{flat_map, IsDistinct};
 ghost use Rattle.std.specs.List.Sorted.{IsStrictlySortedBy};
 ghost use Rattle.cw_types.specs.declared.ids.Item.{Item};

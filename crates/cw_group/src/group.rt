@@ -1,5 +1,6 @@
 //! The group.
-ghost use Rattle.std.specs.Prelude.{◌≡◌, ◌≢◌, ◌<◌, ◌≤◌, ◌+◌, ℕ, List, [], Some, None, Ok, Err, IfOk, IsOk, OnOk, OnErr, MatchResult, MatchOption, option_copied, false, is_some, length, slice_index_or};
+ghost use Rattle.std.specs.Prelude.{◌≡◌, ◌≢◌, ◌<◌, ◌≤◌, ◌+◌, ℕ, List, [], Some, None, Ok, Err, IfOk, IsOk, OnOk, OnErr};
+ghost use Rattle.std.specs.Prelude.{MatchResult, MatchOption, option_copied, false, is_some, length, slice_index_or};
 ghost use Rattle.std.specs.List.{IsDistinct};
 ghost use Rattle.std.specs.Option.{option_map, option_map_or};
 ghost use Rattle.cw_assign.specs.Items.{same_item};
@@ -48,8 +49,10 @@ impl Model for Group {
 }
 
 impl Group {
-    ghost use Rattle.cw_group.specs.Members.{member_of, lowest_in, lowest_missing_in, holders_of, AreRising, AreApart, HaveNoRepeat};
-    ghost use Rattle.cw_group.specs.Group.{GroupState, empty_group, next, enters, Does, join_row, expire_row, close_row, store_row, sync_row, MayStore, join_refusal, store_refusal};
+    ghost use Rattle.cw_group.specs.Members.{member_of, lowest_in, lowest_missing_in, holders_of, AreRising, AreApart};
+    ghost use Rattle.cw_group.specs.Members.{HaveNoRepeat};
+    ghost use Rattle.cw_group.specs.Group.{GroupState, empty_group, next, enters, Does, join_row, expire_row};
+    ghost use Rattle.cw_group.specs.Group.{close_row, store_row, sync_row, MayStore, join_refusal, store_refusal};
     ghost use Rattle.cw_group.specs.Places.{IsPlace};
 
     /// With no member, in round 0, which is planned.

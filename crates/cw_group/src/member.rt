@@ -1,5 +1,7 @@
 //! Members, in the order of their numbers.
-ghost use Rattle.std.specs.Prelude.{◌≡◌, ◌<◌, ◌≤◌, ◌∷◌, [], ◌++◌, ℕ, None, Some, IfOk, IsOk, OnOk, OnErr, MatchOption, length, map, remove, slice_index_or, slice_set, option_copied, not, false, if◌then◌else◌};
+ghost use Rattle.std.specs.Prelude.{◌≡◌, ◌<◌, ◌≤◌, ◌∷◌, [], ◌++◌, ℕ, None, Some, IfOk, IsOk, OnOk, OnErr, MatchOption};
+ghost use Rattle.std.specs.Prelude.{length, map, remove, slice_index_or, slice_set, option_copied, not, false};
+ghost use Rattle.std.specs.Prelude.{if◌then◌else◌};
 ghost use Rattle.std.specs.List.{find};
 ghost use Rattle.std.specs.Option.{option_map};
 ghost use Rattle.cw_assign.specs.Items.{has, in_order};
@@ -106,7 +108,8 @@ fn copy_of(alloc: Global, share: &Share) -> Result<Share, AllocError>
     })
 }
 
-ghost use Rattle.cw_group.specs.Members.{member_of, with_member, unjoined, with_shares, lowest_missing_in, holders_of, AreRising};
+ghost use Rattle.cw_group.specs.Members.{member_of, with_member, unjoined, with_shares, lowest_missing_in, holders_of};
+ghost use Rattle.cw_group.specs.Members.{AreRising};
 ghost use Rattle.cw_group.specs.Places.{IsPlace};
 
 /// A worker's member.

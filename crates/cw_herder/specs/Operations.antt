@@ -1,7 +1,8 @@
 -- What a leader is asked to do, as the one event that it makes: it claims its lead and fences older tasks (KIP-618),
 -- commits tasks, marks how transactions ended (KIP-98), and writes what a user asks for, offsets too (KIP-875). Which
 -- operations there are is this project's own.
-use Rattle.std.specs.Prelude.{◌≡◌, ℕ, ◌<◌, Bool, List, [], length, nat_lt, true, IsSome, Some, unwrap_or, Result, Ok, Err, if◌then◌else◌}
+use Rattle.std.specs.Prelude.{◌≡◌, ℕ, ◌<◌, Bool, List, [], length, nat_lt, true, IsSome, Some, unwrap_or, Result, Ok}
+use Rattle.std.specs.Prelude.{Err, if◌then◌else◌}
 use Rattle.std.specs.Bool.{⊤}
 use Rattle.cw_types.specs.declared.logs.LogName.{LogName}
 use Rattle.cw_types.specs.declared.logs.LogName.TheVariants.{Batches}
@@ -17,7 +18,8 @@ use Rattle.cw_model.specs.declared.tick.Tick.{Tick}
 use Rattle.cw_model.specs.declared.tick.Tick.TheVariants as outcome
 use Rattle.cw_model.specs.State.{Cluster}
 use Rattle.cw_model.specs.Answers.{Answer}
-use Rattle.cw_model.specs.EventsLeading.{claim_lead, append_config, fence_one, append_fence, set_offsets, fencing_of, MayAppendConfig, MaySetOffsets}
+use Rattle.cw_model.specs.EventsLeading.{claim_lead, append_config, fence_one, append_fence, set_offsets, fencing_of}
+use Rattle.cw_model.specs.EventsLeading.{MayAppendConfig, MaySetOffsets}
 use Rattle.cw_model.specs.EventsMarking.{mark}
 use Rattle.cw_model.specs.Lookups.{row_of, seen}
 use Rattle.cw_model.specs.Proposals.{proposal_of, needs_tasks, are_deferred, commit_records, task_records}

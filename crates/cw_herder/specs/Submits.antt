@@ -12,7 +12,8 @@ use Rattle.cw_route.specs.declared.reply.Reply.{Reply}
 use Rattle.cw_rest.specs.Bodies.{Asked, asked_in, config_in}
 use Rattle.cw_rest.specs.Calls.{deed_of}
 use Rattle.cw_model.specs.declared.fault.WorldFault.{WorldFault}
-use Rattle.cw_model.specs.declared.fault.WorldFault.TheVariants.{Fenced, StaleGeneration, PendingFence, BadCut, Gone, Full, StoreFault, Closed, Dead, Group, TooMany, Memory}
+use Rattle.cw_model.specs.declared.fault.WorldFault.TheVariants.{Fenced, StaleGeneration, PendingFence, BadCut, Gone}
+use Rattle.cw_model.specs.declared.fault.WorldFault.TheVariants.{Full, StoreFault, Closed, Dead, Group, TooMany, Memory}
 use Rattle.cw_model.specs.State.{Setting, Cluster}
 use Rattle.cw_model.specs.Answers.{Answer, answered}
 use Rattle.cw_model.specs.EventsItems.{read_config}

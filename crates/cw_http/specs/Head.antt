@@ -1,6 +1,7 @@
 -- The refusals of a head that are told by its lines alone: too many of them (RFC 6585, 5), and another version than
 -- HTTP/1.0 and HTTP/1.1 (RFC 9110, 15.6.6).
-use Rattle.std.specs.Prelude.{ℕ, ◌-◌, ◌==◌, ◌&&◌, ◌||◌, not, Bool, false, nat_lt, List, [], ◌∷◌, length, take, drop, position, count_by, codes, bytes_eq, slice_index, Option, Some, None, if◌then◌else◌}
+use Rattle.std.specs.Prelude.{ℕ, ◌-◌, ◌==◌, ◌&&◌, ◌||◌, not, Bool, false, nat_lt, List, [], ◌∷◌, length, take, drop}
+use Rattle.std.specs.Prelude.{position, count_by, codes, bytes_eq, slice_index, Option, Some, None, if◌then◌else◌}
 use Rattle.std.specs.Char.{is_ascii_digit}
 
 -- the bytes before a place, or all

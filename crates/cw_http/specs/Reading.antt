@@ -1,6 +1,7 @@
 -- What stands at the front of bytes that a peer sent: a whole request of HTTP/1.0 or HTTP/1.1 (RFC 9112) within this
 -- project's limits, the beginning of one, or a refusal. It looks at all bytes at once, however they came.
-use Rattle.std.specs.Prelude.{◌≡◌, ◌⊎◌, ℕ, nat_lt, List, [], length, take, drop, map, Option, Some, None, Result, Ok, Err, if◌then◌else◌}
+use Rattle.std.specs.Prelude.{◌≡◌, ◌⊎◌, ℕ, nat_lt, List, [], length, take, drop, map, Option, Some, None, Result, Ok}
+use Rattle.std.specs.Prelude.{Err, if◌then◌else◌}
 use Rattle.httparse.specs.Grammar.{RequestHead, ReadsRequest}
 use Rattle.httparse.specs.Spans.{name_and_value}
 use Rattle.cw_http.specs.declared.request.Request.{Request}

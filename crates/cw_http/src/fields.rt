@@ -1,11 +1,13 @@
 //! What the fields of a head tell.
-ghost use Rattle.std.specs.Prelude.{◌≡◌, ◌≤◌, [], ◌∷◌, min, length, map, drop, codes, All, IsTrue, MatchOption, IfSome, IfErr};
+ghost use Rattle.std.specs.Prelude.{◌≡◌, ◌≤◌, [], ◌∷◌, min, length, map, drop, codes, All, IsTrue, MatchOption, IfSome};
+ghost use Rattle.std.specs.Prelude.{IfErr};
 ghost use Rattle.std.specs.Option.{option_map, option_to_list};
 ghost use Rattle.std.specs.List.{list_all, list_any};
 ghost use Rattle.std.specs.Char.{is_ascii_digit};
 ghost use Rattle.cw_types.specs.Decimal.{read_on};
 ghost use Rattle.httparse.specs.Spans.{IsHeaderWithin, header_bytes};
-ghost use Rattle.cw_http.specs.Fields.{is_same_text, value_of, values_of, is_close, is_length, length_of, length_in, body_length, closes};
+ghost use Rattle.cw_http.specs.Fields.{is_same_text, value_of, values_of, is_close, is_length, length_of, length_in};
+ghost use Rattle.cw_http.specs.Fields.{body_length, closes};
 ghost use Rattle.cw_http.specs.Kept.{IsRefusalCode};
 
 use httparse::spans::HeaderSpan;

@@ -1,6 +1,7 @@
 //! What the lines of a head tell.
 ghost use Rattle.std.specs.Prelude.{◌≡◌, ◌==◌, ◌-◌, count_by, position, length, IfSome};
-ghost use Rattle.cw_http.specs.Head.{without_return, first_line, is_other_version, marks_other_version, has_other_version, refusal_of_lines};
+ghost use Rattle.cw_http.specs.Head.{without_return, first_line, is_other_version, marks_other_version};
+ghost use Rattle.cw_http.specs.Head.{has_other_version, refusal_of_lines};
 ghost use Rattle.cw_http.specs.Kept.{IsRefusalCode};
 
 // How many lines end.

@@ -1,5 +1,6 @@
 //! Requests are read from a link, piece by piece.
-ghost use Rattle.std.specs.Prelude.{◌≡◌, ◌+◌, ◌^◌, ◌<◌, ◌≤◌, ℕ, max, take, drop, length, IfSome, IfOk, OnOk, OnErr, vec_len};
+ghost use Rattle.std.specs.Prelude.{◌≡◌, ◌+◌, ◌^◌, ◌<◌, ◌≤◌, ℕ, max, take, drop, length, IfSome, IfOk, OnOk, OnErr};
+ghost use Rattle.std.specs.Prelude.{vec_len};
 ghost use Rattle.cw_types.specs.Faults.{Rose};
 ghost use Rattle.cw_io.specs.Told.{with_front, IsAtEnd};
 ghost use Rattle.cw_http.specs.HeadEnd.{head_length};

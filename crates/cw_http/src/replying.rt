@@ -5,7 +5,8 @@ ghost use Rattle.cw_types.specs.Faults.{Rose};
 ghost use Rattle.cw_io.specs.Told.{with_back};
 ghost use Rattle.cw_io.specs.Written.{IsWrittenInPart};
 ghost use Rattle.cw_http.specs.Sending.{Waits};
-ghost use Rattle.cw_http.specs.Replies.{phrase, status_line, close_line, length_line, type_line, reply_text, refusal_of, refusal_text};
+ghost use Rattle.cw_http.specs.Replies.{phrase, status_line, close_line, length_line, type_line, reply_text};
+ghost use Rattle.cw_http.specs.Replies.{refusal_of, refusal_text};
 
 use crate::sending::send_line;
 use cw_io::{Failed, Link, send_all};

@@ -1,5 +1,6 @@
 //! A source and a sink in memory. They tell all, and fail at the calls that they are told to.
-ghost use Rattle.std.specs.Prelude.{◌≡◌, ◌≤◌, ◌<◌, ◌⊎◌, ◌++◌, [], length, take, min, true, false, vec_capacity, IfOk, OnErr, is_err};
+ghost use Rattle.std.specs.Prelude.{◌≡◌, ◌≤◌, ◌<◌, ◌⊎◌, ◌++◌, [], length, take, min, true, false, vec_capacity, IfOk};
+ghost use Rattle.std.specs.Prelude.{OnErr, is_err};
 ghost use Rattle.cw_types.specs.Faults.{Rose};
 ghost use Rattle.cw_io.specs.Calls.{no_calls, is_listed, after_call};
 ghost use Rattle.cw_io.specs.Memory.{AsksForMemory};

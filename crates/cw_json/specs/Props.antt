@@ -1,8 +1,10 @@
 -- Which properties a JSON value stands for. Connect's REST API sends a connector's config as an object; that whole
 -- numbers and truth values are taken as their JSON text is this project's own rule.
-use Rattle.std.specs.Prelude.{ℕ, List, [], ◌∷◌, ◌++◌, Option, Some, None, Result, Ok, Err, codes, decimal, if◌then◌else◌}
+use Rattle.std.specs.Prelude.{ℕ, List, [], ◌∷◌, ◌++◌, Option, Some, None, Result, Ok, Err, codes, decimal}
+use Rattle.std.specs.Prelude.{if◌then◌else◌}
 use Rattle.std.specs.Fmt.{signed_decimal}
-use Rattle.serde_json.specs.Data.{Num, unsigned, negative, float, Data, null, boolean, number, string, array, object, Members, no_members, member}
+use Rattle.serde_json.specs.Data.{Num, unsigned, negative, float, Data, null, boolean, number, string, array, object}
+use Rattle.serde_json.specs.Data.{Members, no_members, member}
 use Rattle.cw_json.specs.declared.fault.JsonFault.{JsonFault}
 use Rattle.cw_json.specs.declared.fault.JsonFault.TheVariants.{NotObject, BadValue}
 

@@ -1,6 +1,7 @@
 -- The keys of Connect's config topic: a connector's config, the config of one of its tasks, the record that commits a
 -- set of tasks, the target state (KIP-875 added STOPPED), and the fence before a new set of tasks (KIP-618).
-use Rattle.std.specs.Prelude.{ℕ, List, ◌++◌, drop, nat_eq, Bool, true, false, Option, None, option_map, codes, if◌then◌else◌}
+use Rattle.std.specs.Prelude.{ℕ, List, ◌++◌, drop, nat_eq, Bool, true, false, Option, None, option_map, codes}
+use Rattle.std.specs.Prelude.{if◌then◌else◌}
 use Rattle.std.specs.List.{starts_with}
 use Rattle.cw_types.specs.Name.{name_of, IsName}
 use Rattle.cw_keys.specs.Names.{task_of, task_text, IsTask}

@@ -1,7 +1,8 @@
 -- The records of Connect's config topic: a key, and a value of the key's kind. A value is JSON whose members may stand
 -- in any order, and members of other names are passed over. A record without a value removes a connector or its target
 -- state.
-use Rattle.std.specs.Prelude.{◌≡◌, ◌<◌, ◌^◌, ℕ, List, Bool, true, false, Option, Some, None, Result, Ok, Err, option_map, option_and_then, codes, if◌then◌else◌}
+use Rattle.std.specs.Prelude.{◌≡◌, ◌<◌, ◌^◌, ℕ, List, Bool, true, false, Option, Some, None, Result, Ok, Err}
+use Rattle.std.specs.Prelude.{option_map, option_and_then, codes, if◌then◌else◌}
 use Rattle.serde_json.specs.Data.{Data}
 use Rattle.serde_json.specs.Written.{compact_text}
 use Rattle.cw_json.specs.Reading.{reading}

@@ -1,6 +1,7 @@
 -- Tasks within keys. Connect's config and status topics name a task by its connector, a dash and its index; a
 -- connector's name may hold dashes itself, so a task is cut at the last one.
-use Rattle.std.specs.Prelude.{◌<◌, ◌^◌, ◌-◌, ℕ, ◌==◌, List, [], ◌∷◌, ◌++◌, Option, Some, None, option_and_then, codes, decimal, if◌then◌else◌}
+use Rattle.std.specs.Prelude.{◌<◌, ◌^◌, ◌-◌, ℕ, ◌==◌, List, [], ◌∷◌, ◌++◌, Option, Some, None, option_and_then, codes}
+use Rattle.std.specs.Prelude.{decimal, if◌then◌else◌}
 use Rattle.cw_types.specs.Name.{name_of, IsName}
 use Rattle.cw_types.specs.Decimal.{number_of}
 use Rattle.cw_types.specs.Task.{task_of_parts}

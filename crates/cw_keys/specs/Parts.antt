@@ -1,8 +1,10 @@
 -- The keys of Connect's offset topic: `["CONNECTOR",PARTITION]`. A partition is `{"filename":"FEED"}`,
 -- `{"sequence":I}`, or `{"kafka_partition":0,"kafka_topic":"TOPIC"}` for a sink (KIP-875). A key is compared by its
 -- bytes, so each part has one spelling.
-use Rattle.std.specs.Prelude.{◌<◌, ◌^◌, ℕ, List, Bool, true, false, Option, Some, None, option_map, option_and_then, bytes_eq, codes, if◌then◌else◌}
-use Rattle.serde_json.specs.Data.{Data, null, number, string, array, object, Items, no_items, item, member, no_members, unsigned}
+use Rattle.std.specs.Prelude.{◌<◌, ◌^◌, ℕ, List, Bool, true, false, Option, Some, None, option_map, option_and_then}
+use Rattle.std.specs.Prelude.{bytes_eq, codes, if◌then◌else◌}
+use Rattle.serde_json.specs.Data.{Data, null, number, string, array, object, Items, no_items, item, member, no_members}
+use Rattle.serde_json.specs.Data.{unsigned}
 use Rattle.serde_json.specs.Find.{get, as_str, as_array}
 use Rattle.serde_json.specs.Written.{compact_text}
 use Rattle.cw_types.specs.Name.{name_of, IsName}

@@ -2,7 +2,8 @@
 -- `{"generation":r,"state":S,"trace":T,"worker_id":"worker-N"}`. T is null or a text; members may stand in any order,
 -- and members of other names are passed over. That a worker's id is `worker-` and its number is this project's own
 -- choice.
-use Rattle.std.specs.Prelude.{◌<◌, ◌^◌, ◌-◌, ℕ, List, ◌++◌, drop, nat_eq, Option, Some, None, Result, Ok, Err, option_map, option_and_then, bytes_eq, codes, decimal, if◌then◌else◌}
+use Rattle.std.specs.Prelude.{◌<◌, ◌^◌, ◌-◌, ℕ, List, ◌++◌, drop, nat_eq, Option, Some, None, Result, Ok, Err}
+use Rattle.std.specs.Prelude.{option_map, option_and_then, bytes_eq, codes, decimal, if◌then◌else◌}
 use Rattle.std.specs.List.{starts_with}
 use Rattle.std.specs.Str.{IsUtf8}
 use Rattle.serde_json.specs.Data.{Data, null, boolean, number, string, array, object, member, no_members, unsigned}

@@ -4,7 +4,8 @@ ghost use Rattle.serde_json.specs.View.{view, items_view};
 ghost use Rattle.serde_json.specs.Find.{as_array, as_str};
 ghost use Rattle.cw_json.specs.Reading.{reading};
 ghost use Rattle.cw_types.specs.Answers.{Gives};
-ghost use Rattle.cw_keys.specs.Parts.{part_named, part_in_items, part_of, part_text, part_data, key_data, file_partition, seq_partition, sink_partition, is_raw, IsPart};
+ghost use Rattle.cw_keys.specs.Parts.{part_named, part_in_items, part_of, part_text, part_data, key_data};
+ghost use Rattle.cw_keys.specs.Parts.{file_partition, seq_partition, sink_partition, is_raw, IsPart};
 ghost use Rattle.cw_types.specs.Name.{name_of, IsName};
 
 use crate::fault::KeyFault;

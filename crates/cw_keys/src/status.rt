@@ -1,12 +1,14 @@
 //! Records of the status log: a connector or a task, and its status.
-ghost use Rattle.std.specs.Prelude.{◌≡◌, ◌<◌, ◌^◌, ◌++◌, IfOk, IfErr, OnOk, Ok, Some, option_and_then, option_map, string_bytes, codes, decimal};
+ghost use Rattle.std.specs.Prelude.{◌≡◌, ◌<◌, ◌^◌, ◌++◌, IfOk, IfErr, OnOk, Ok, Some, option_and_then, option_map};
+ghost use Rattle.std.specs.Prelude.{string_bytes, codes, decimal};
 ghost use Rattle.serde_json.specs.Find.{get};
 ghost use Rattle.serde_json.specs.View.{view};
 ghost use Rattle.cw_json.specs.Reading.{reading};
 ghost use Rattle.cw_types.specs.Answers.{Gives};
 ghost use Rattle.cw_keys.specs.Names.{task_of};
 ghost use Rattle.cw_types.specs.declared.ids.Item.TheVariants.{Task};
-ghost use Rattle.cw_keys.specs.Statuses.{state_named, status_item, status_key, worker_named, text_at, trace_in, trace_data, status_value, status_data, status_text, status_of, IsItem};
+ghost use Rattle.cw_keys.specs.Statuses.{state_named, status_item, status_key, worker_named, text_at, trace_in};
+ghost use Rattle.cw_keys.specs.Statuses.{trace_data, status_value, status_data, status_text, status_of, IsItem};
 
 use crate::fault::KeyFault;
 use crate::members::{text_of_value, u64_at};

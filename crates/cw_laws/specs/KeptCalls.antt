@@ -6,7 +6,8 @@ use Rattle.cw_model.specs.declared.journal.JournalEntry.{JournalEntry}
 use Rattle.cw_model.specs.State.{Setting, Cluster}
 use Rattle.cw_model.specs.Lookups.{row_of}
 use Rattle.cw_model.specs.Grows.{Grows}
-use Rattle.cw_model.specs.Journal.{seen_by, IsRightReply, IsOfBoard, WroteConfigs, WroteOffsets, SeesAsOfNow, IsReplyOfNow}
+use Rattle.cw_model.specs.Journal.{seen_by, IsRightReply, IsOfBoard, WroteConfigs, WroteOffsets, SeesAsOfNow}
+use Rattle.cw_model.specs.Journal.{IsReplyOfNow}
 use Rattle.cw_model.specs.Updates.{stamped}
 
 -- a call was answered by a state, and wrote its configs behind what stood there; its worker has read them since

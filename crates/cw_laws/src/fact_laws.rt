@@ -19,7 +19,8 @@ ghost use Rattle.cw_model.specs.Committed.{batches_of};
 ghost use Rattle.cw_model.specs.EventsItems.{spec_in};
 ghost use Rattle.cw_model.specs.Facts.{AreFacts};
 ghost use Rattle.cw_model.specs.FactsGroup.{AreAmong, Claims, IsAsTold, IsWithinPlan, shared_items};
-ghost use Rattle.cw_model.specs.FactsProducers.{HasItsBatch, HasUsed, IsFencing, IsNewest, IsToBeFenced, IsUnfenced, Writes, batches_up_to, commits_up_to, tag_in_hand};
+ghost use Rattle.cw_model.specs.FactsProducers.{HasItsBatch, HasUsed, IsFencing, IsNewest, IsToBeFenced, IsUnfenced};
+ghost use Rattle.cw_model.specs.FactsProducers.{Writes, batches_up_to, commits_up_to, tag_in_hand};
 ghost use Rattle.cw_model.specs.Fences.{fenced_generation_of};
 ghost use Rattle.cw_model.specs.Lookups.{end_or_start, held, instance_of, is_member, last_epoch, row_of};
 ghost use Rattle.cw_model.specs.Phases.{has_epoch, has_open_transaction, is_fetched};
@@ -90,8 +91,8 @@ pub fn producer_facts_hold()
         m ≢ n → Writes s m id epoch → Writes s n id epoch → ⊥ }
     ensures known_epochs { (setting : Setting) (s : Cluster) (n : ℕ) (id : TaskId) (epoch : ℕ) → AreFacts setting s →
         Writes s n id epoch → epoch ≤ last_epoch (Task id) s }
-    // Of its id and epoch nothing is written before it polls, and then nothing of its next number or a later one but the
-    // one batch of its open transaction.
+    // Of its id and epoch nothing is written before it polls, and then nothing of its next number or a later one but
+    // the one batch of its open transaction.
     ensures numbers { (setting : Setting) (s : Cluster) (n : ℕ) (id : TaskId) (epoch : ℕ) → AreFacts setting s →
         Writes s n id epoch → has_epoch (instance_of n s).phase ≡ true →
         HasUsed s id epoch (batches_up_to (instance_of n s)) (commits_up_to (instance_of n s)) }

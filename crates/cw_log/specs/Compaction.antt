@@ -1,6 +1,7 @@
 -- A log that takes the place of another (this project's own format): it is written whole behind its first gate, which
 -- is closed, and that gate is opened last. So a stop leaves what was there, an unmade file, or the new log.
-use Rattle.std.specs.Prelude.{◌≡◌, ◌≤◌, ◌<◌, ◌⊎◌, ℕ, List, [], ◌∷◌, ◌++◌, ◌-◌, ◌^◌, false, length, take, drop, map, Some, None, Vec}
+use Rattle.std.specs.Prelude.{◌≡◌, ◌≤◌, ◌<◌, ◌⊎◌, ℕ, List, [], ◌∷◌, ◌++◌, ◌-◌, ◌^◌, false, length, take, drop, map}
+use Rattle.std.specs.Prelude.{Some, None, Vec}
 use Rattle.std.specs.declared.alloc.Global.{Global}
 use Rattle.cw_disk.specs.declared.device.Disk.{Ghosts}
 use Rattle.cw_disk.specs.Told.{Told}

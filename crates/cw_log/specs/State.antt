@@ -1,5 +1,6 @@
 -- A log, as contracts see it: its list, how many bytes it has, and what a stop leaves of it.
-use Rattle.std.specs.Prelude.{◌≡◌, ◌≤◌, ◌<◌, ◌+◌, ◌-◌, ◌^◌, ◌++◌, ◌∷◌, [], min, ℕ, List, Option, Some, None, Bool, false, length, take, vec_capacity, vec_len, Vec}
+use Rattle.std.specs.Prelude.{◌≡◌, ◌≤◌, ◌<◌, ◌+◌, ◌-◌, ◌^◌, ◌++◌, ◌∷◌, [], min, ℕ, List, Option, Some, None, Bool}
+use Rattle.std.specs.Prelude.{false, length, take, vec_capacity, vec_len, Vec}
 use Rattle.std.specs.declared.alloc.Global.{Global}
 use Rattle.cw_disk.specs.Disk.{Only}
 use Rattle.cw_types.specs.Faults.{Rose}

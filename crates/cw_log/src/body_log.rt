@@ -1,5 +1,6 @@
 // What a log is to the crates above: a list of bodies, and which lists a stop may leave of it.
-ghost use Rattle.std.specs.Prelude.{◌≡◌, ◌⊎◌, ◌≤◌, ◌<◌, ◌+◌, ◌^◌, ◌++◌, ◌∷◌, [], List, ℕ, Option, Some, Bool, true, false, length, OnOk, OnErr, IfOk, IfErr, option_map, is_some, slice_index_or};
+ghost use Rattle.std.specs.Prelude.{◌≡◌, ◌⊎◌, ◌≤◌, ◌<◌, ◌+◌, ◌^◌, ◌++◌, ◌∷◌, [], List, ℕ, Option, Some, Bool, true};
+ghost use Rattle.std.specs.Prelude.{false, length, OnOk, OnErr, IfOk, IfErr, option_map, is_some, slice_index_or};
 ghost use Rattle.cw_disk.specs.Disk.{AddsOf};
 ghost use Rattle.cw_log.specs.Log.{length_of};
 ghost use Rattle.cw_log.specs.State.{FailedOn, IsFitting, OnAppendFault, OnReadFault};

@@ -1,5 +1,6 @@
 // Calls of a disk, each with what it does to the images that a stop may leave.
-ghost use Rattle.std.specs.Prelude.{◌≡◌, ◌≤◌, ◌<◌, ◌+◌, ◌-◌, ◌^◌, List, ℕ, Some, length, take, drop, min, IfOk, IfErr, OnOk, OnErr, is_some, option_map, ◌++◌, ◌∷◌};
+ghost use Rattle.std.specs.Prelude.{◌≡◌, ◌≤◌, ◌<◌, ◌+◌, ◌-◌, ◌^◌, List, ℕ, Some, length, take, drop, min, IfOk, IfErr};
+ghost use Rattle.std.specs.Prelude.{OnOk, OnErr, is_some, option_map, ◌++◌, ◌∷◌};
 ghost use Rattle.cw_disk.specs.Told.{Adds, Reads, Told};
 ghost use Rattle.cw_disk.specs.Disk.{Only, Torn, Cut, written};
 ghost use Rattle.cw_types.specs.Faults.{Rose};

@@ -1,12 +1,14 @@
 // How a log takes the place of another: it is written whole behind its first gate, which is closed, and that
 // gate is opened last.
-ghost use Rattle.std.specs.Prelude.{◌≡◌, ◌⊎◌, ◌≤◌, ◌<◌, ◌+◌, ◌^◌, ℕ, suc, None, [], ◌∷◌, ◌++◌, length, take, drop, IfOk, IfErr, OnOk, OnErr, is_some, option_map, vec_capacity, All};
+ghost use Rattle.std.specs.Prelude.{◌≡◌, ◌⊎◌, ◌≤◌, ◌<◌, ◌+◌, ◌^◌, ℕ, suc, None, [], ◌∷◌, ◌++◌, length, take, drop};
+ghost use Rattle.std.specs.Prelude.{IfOk, IfErr, OnOk, OnErr, is_some, option_map, vec_capacity, All};
 ghost use Rattle.cw_disk.specs.Told.{Adds, Reads, Settled, Told};
 ghost use Rattle.cw_disk.specs.Disk.{written};
 ghost use Rattle.cw_types.specs.Faults.{Rose};
 ghost use Rattle.cw_log.specs.Log.{IsBody, IsUnmade, bodies_at, field, header, length_of, number_of, places_of};
 ghost use Rattle.cw_log.specs.State.{IsKept, IsRest, OnReadFault};
-ghost use Rattle.cw_log.specs.Compaction.{IsClosed, IsRegated, IsReplaced, IsStaged, LeavesClosed, bodies_in, with_gate_open};
+ghost use Rattle.cw_log.specs.Compaction.{IsClosed, IsRegated, IsReplaced, IsStaged, LeavesClosed, bodies_in};
+ghost use Rattle.cw_log.specs.Compaction.{with_gate_open};
 
 use crate::calls::{flush, length_of, prepare, put};
 use crate::make::clear;

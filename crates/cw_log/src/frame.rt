@@ -1,5 +1,6 @@
 // A frame that is put behind a closed gate.
-ghost use Rattle.std.specs.Prelude.{◌≡◌, ◌≤◌, ◌<◌, ◌+◌, ◌^◌, List, ℕ, Some, [], ◌∷◌, ◌++◌, length, take, OnOk, OnErr, is_some, option_map, vec_capacity};
+ghost use Rattle.std.specs.Prelude.{◌≡◌, ◌≤◌, ◌<◌, ◌+◌, ◌^◌, List, ℕ, Some, [], ◌∷◌, ◌++◌, length, take, OnOk, OnErr};
+ghost use Rattle.std.specs.Prelude.{is_some, option_map, vec_capacity};
 ghost use Rattle.cw_disk.specs.Told.{Adds, Told};
 ghost use Rattle.cw_disk.specs.Disk.{Only};
 ghost use Rattle.cw_types.specs.Faults.{Rose};

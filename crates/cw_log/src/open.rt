@@ -1,9 +1,12 @@
 // Opening the file of a log: it is synced, read, and then made or cut behind its closed gate.
-ghost use Rattle.std.specs.Prelude.{◌≡◌, ◌≤◌, ◌<◌, ◌+◌, ◌^◌, List, ℕ, Option, Some, None, [], ◌∷◌, ◌++◌, length, take, drop, IfOk, IfErr, OnOk, OnErr, is_some, option_map, true};
+ghost use Rattle.std.specs.Prelude.{◌≡◌, ◌≤◌, ◌<◌, ◌+◌, ◌^◌, List, ℕ, Option, Some, None, [], ◌∷◌, ◌++◌, length, take};
+ghost use Rattle.std.specs.Prelude.{drop, IfOk, IfErr, OnOk, OnErr, is_some, option_map, true};
 ghost use Rattle.cw_disk.specs.Told.{Adds, Reads, Told};
 ghost use Rattle.cw_disk.specs.Disk.{Only};
 ghost use Rattle.cw_types.specs.Faults.{Rose};
-ghost use Rattle.cw_log.specs.Log.{IsUnmade, IsDamaged, StandsFor, StandAlike, Begins, IsFrame, OnCause, EndsAtGate, HasHead, OpensAs, byte_at, harm_of_head, harm_of_file, bodies_at, new_log, number_of, places_of};
+ghost use Rattle.cw_log.specs.Log.{IsUnmade, IsDamaged, StandsFor, StandAlike, Begins, IsFrame, OnCause, EndsAtGate};
+ghost use Rattle.cw_log.specs.Log.{HasHead, OpensAs, byte_at, harm_of_head, harm_of_file, bodies_at, new_log};
+ghost use Rattle.cw_log.specs.Log.{number_of, places_of};
 ghost use Rattle.cw_log.specs.State.{IsKept, IsRest, OpensTo, HasFront};
 
 use crate::calls::{flush, length_of, prepare, read, shorten};

@@ -1,5 +1,6 @@
 // Reading the frames of a made file.
-ghost use Rattle.std.specs.Prelude.{◌≡◌, ◌≤◌, ◌<◌, ◌+◌, ◌-◌, ◌^◌, ◌++◌, ◌∷◌, [], List, ℕ, Some, None, length, take, drop, IfOk, IfErr, OnOk, OnErr};
+ghost use Rattle.std.specs.Prelude.{◌≡◌, ◌≤◌, ◌<◌, ◌+◌, ◌-◌, ◌^◌, ◌++◌, ◌∷◌, [], List, ℕ, Some, None, length, take};
+ghost use Rattle.std.specs.Prelude.{drop, IfOk, IfErr, OnOk, OnErr};
 ghost use Rattle.cw_disk.specs.Told.{Reads, Told};
 ghost use Rattle.cw_types.specs.Faults.{Rose};
 ghost use Rattle.cw_log.specs.Calls.{Shows, IsWindow};

@@ -1,10 +1,14 @@
 // One log on one disk.
-ghost use Rattle.std.specs.Prelude.{◌≡◌, ◌⊎◌, ◌≤◌, ◌<◌, ◌+◌, ◌-◌, ◌^◌, ◌++◌, ◌∷◌, [], All, List, ℕ, Option, Some, None, Bool, true, false, length, OnOk, OnErr, IfOk, IfErr, MatchResult, option_map, is_some, is_ok, is_err, if◌then◌else◌, slice_index_or};
+ghost use Rattle.std.specs.Prelude.{◌≡◌, ◌⊎◌, ◌≤◌, ◌<◌, ◌+◌, ◌-◌, ◌^◌, ◌++◌, ◌∷◌, [], All, List, ℕ, Option, Some, None};
+ghost use Rattle.std.specs.Prelude.{Bool, true, false, length, OnOk, OnErr, IfOk, IfErr, MatchResult, option_map};
+ghost use Rattle.std.specs.Prelude.{is_some, is_ok, is_err, if◌then◌else◌, slice_index_or};
 ghost use Rattle.cw_disk.specs.Told.{Adds, Reads, Settled, Told};
 ghost use Rattle.cw_disk.specs.Disk.{Only};
 ghost use Rattle.cw_types.specs.Faults.{Rose};
-ghost use Rattle.cw_log.specs.Log.{StandsFor, StandAlike, BeforeOrAfter, HasHead, IsBody, IsDamaged, IsSide, OnCause, OpensAs, byte_at, kind_of, length_of};
-ghost use Rattle.cw_log.specs.State.{LogState, OnAppendFault, OnReadFault, OpensTo, IsSameLog, HasSameList, IsAppendable};
+ghost use Rattle.cw_log.specs.Log.{StandsFor, StandAlike, BeforeOrAfter, HasHead, IsBody, IsDamaged, IsSide, OnCause};
+ghost use Rattle.cw_log.specs.Log.{OpensAs, byte_at, kind_of, length_of};
+ghost use Rattle.cw_log.specs.State.{LogState, OnAppendFault, OnReadFault, OpensTo, IsSameLog, HasSameList};
+ghost use Rattle.cw_log.specs.State.{IsAppendable};
 ghost use Rattle.cw_log.specs.Compaction.{IsCompactable, IsReplaced, OnCompactFault, bodies_in};
 
 use crate::calls::prepare;

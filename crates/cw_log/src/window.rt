@@ -1,5 +1,6 @@
 // A part of a file in memory, so that small frames are not read one by one.
-ghost use Rattle.std.specs.Prelude.{◌≡◌, ◌≤◌, ◌<◌, ◌+◌, ◌-◌, List, ℕ, Option, Some, length, take, drop, IfOk, IfErr, OnOk, OnErr, min, true};
+ghost use Rattle.std.specs.Prelude.{◌≡◌, ◌≤◌, ◌<◌, ◌+◌, ◌-◌, List, ℕ, Option, Some, length, take, drop, IfOk, IfErr};
+ghost use Rattle.std.specs.Prelude.{OnOk, OnErr, min, true};
 ghost use Rattle.cw_disk.specs.Told.{Reads, Told};
 ghost use Rattle.cw_types.specs.Faults.{Rose};
 ghost use Rattle.cw_log.specs.Calls.{Shows, IsAhead};

@@ -1,6 +1,7 @@
 -- What the leader writes, each under its lead epoch: configs, the bumps that fence the producers of older tasks, the
 -- record that says that they are fenced (KIP-618), and offsets that a user sets or resets (KIP-875).
-use Rattle.std.specs.Prelude.{◌≡◌, ℕ, ◌+◌, ◌<◌, ◌≤◌, ◌^◌, length, ◌==◌, ◌&&◌, Bool, true, false, List, [], ◌∷◌, ◌++◌, map, All, Option, Some, None, IsSome, unwrap_or, bytes_eq, if◌then◌else◌}
+use Rattle.std.specs.Prelude.{◌≡◌, ℕ, ◌+◌, ◌<◌, ◌≤◌, ◌^◌, length, ◌==◌, ◌&&◌, Bool, true, false, List, [], ◌∷◌, ◌++◌}
+use Rattle.std.specs.Prelude.{map, All, Option, Some, None, IsSome, unwrap_or, bytes_eq, if◌then◌else◌}
 use Rattle.std.specs.List.{range_with_len, IsDistinct}
 use Rattle.cw_types.specs.declared.ids.Epoch.{Epoch}
 use Rattle.cw_types.specs.declared.ids.Tid.{Tid}
@@ -25,7 +26,8 @@ use Rattle.cw_model.specs.State.{Cluster}
 use Rattle.cw_model.specs.Lookups.{row_of, seen}
 use Rattle.cw_model.specs.ConfigsAllowed.{AreAllowedConfigs, is_fence_key}
 use Rattle.cw_model.specs.Answers.{Answer, refused, at_worker}
-use Rattle.cw_model.specs.Updates.{changes_row, next_config, stamped, appends_configs, appends_entries, bumps, next_epoch, as_leader}
+use Rattle.cw_model.specs.Updates.{changes_row, next_config, stamped, appends_configs, appends_entries, bumps}
+use Rattle.cw_model.specs.Updates.{next_epoch, as_leader}
 
 -- whether a worker leads the round of its assignment
 abbrev pub leads : ℕ → RowPhase → Bool

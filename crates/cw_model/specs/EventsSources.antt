@@ -1,6 +1,7 @@
 -- The steps of a source task (KIP-618): it gets an epoch of its own, then checks that its generation is the newest and
 -- fenced, then takes its positions, and then writes records and offsets in one transaction after the other.
-use Rattle.std.specs.Prelude.{◌≡◌, ℕ, ◌<◌, ◌-◌, ◌==◌, Bool, true, not, List, [], ◌∷◌, map, length, nat_lt, nat_le, slice_index, Some, unwrap_or, if◌then◌else◌}
+use Rattle.std.specs.Prelude.{◌≡◌, ℕ, ◌<◌, ◌-◌, ◌==◌, Bool, true, not, List, [], ◌∷◌, map, length, nat_lt, nat_le}
+use Rattle.std.specs.Prelude.{slice_index, Some, unwrap_or, if◌then◌else◌}
 use Rattle.cw_types.specs.declared.ids.Epoch.{Epoch}
 use Rattle.cw_types.specs.declared.ids.PartKey.{PartKey}
 use Rattle.cw_types.specs.declared.ids.PartKey.TheVariants.{Raw, File, Seq, Sink}
@@ -24,8 +25,10 @@ use Rattle.cw_model.specs.declared.instance.InstancePhase.TheVariants as phase
 use Rattle.cw_model.specs.State.{Setting, Cluster}
 use Rattle.cw_model.specs.Lookups.{instance_of, end_or_start}
 use Rattle.cw_model.specs.Answers.{Answer, refused, answered, at_instance}
-use Rattle.cw_model.specs.Updates.{changes_instance, in_phase, stamp_of, next_offset, appends_offset, appends_entries, appends_data, bumps, next_epoch, as_producer, task_id_of, tid_of}
-use Rattle.cw_model.specs.Tasks.{parts_of, part_at, position_at, topic_of, count_of, is_source, tag_of, cut_of, span_of, taking, polling_from, yielded}
+use Rattle.cw_model.specs.Updates.{changes_instance, in_phase, stamp_of, next_offset, appends_offset, appends_entries}
+use Rattle.cw_model.specs.Updates.{appends_data, bumps, next_epoch, as_producer, task_id_of, tid_of}
+use Rattle.cw_model.specs.Tasks.{parts_of, part_at, position_at, topic_of, count_of, is_source, tag_of, cut_of, span_of}
+use Rattle.cw_model.specs.Tasks.{taking, polling_from, yielded}
 
 -- the phase of an instance
 abbrev pub IsIn : InstancePhase → ℕ → Cluster → Type 0

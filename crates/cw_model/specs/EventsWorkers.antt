@@ -1,7 +1,8 @@
 -- Workers come, are killed, turn deaf and hear again; and the group lets a lost member go, whose items wait for it
 -- through the scheduled delay (KIP-415). The clock, that a worker may be deaf, and how many there are at most, is this
 -- project's own.
-use Rattle.std.specs.Prelude.{ℕ, ◌+◌, ◌-◌, ◌^◌, List, [], ◌∷◌, ◌++◌, length, min, max, true, false, nat_lt, if◌then◌else◌}
+use Rattle.std.specs.Prelude.{ℕ, ◌+◌, ◌-◌, ◌^◌, List, [], ◌∷◌, ◌++◌, length, min, max, true, false, nat_lt}
+use Rattle.std.specs.Prelude.{if◌then◌else◌}
 use Rattle.cw_types.specs.declared.ids.Item.{Item}
 use Rattle.cw_assign.specs.declared.delay.Delay.{Delay}
 use Rattle.cw_assign.specs.declared.delay.Delay.TheVariants.{Idle, Until}

@@ -22,7 +22,8 @@ use Rattle.cw_model.specs.Fences.{StandingFence}
 use Rattle.cw_model.specs.Committed.{is_task, batches_of, BatchAgrees}
 use Rattle.cw_model.specs.ConfigsAllowed.{AreAllowedConfigs}
 use Rattle.cw_model.specs.Lookups.{list_end}
-use Rattle.cw_model.specs.Bodies.{status_in, statuses_in, config_length, offsets_length, status_length, txn_length, data_length}
+use Rattle.cw_model.specs.Bodies.{status_in, statuses_in, config_length, offsets_length, status_length, txn_length}
+use Rattle.cw_model.specs.Bodies.{data_length}
 use Rattle.cw_model.specs.Allowed.{IsAllowedData}
 
 -- the records that stand in the config log

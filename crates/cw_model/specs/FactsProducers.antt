@@ -1,7 +1,8 @@
 -- The facts of producers by which each commits what goes on from what is committed, once, whatever happens next: what
 -- an instance is like that isn't fenced, and which transactions it may still write (KIP-618, KIP-98). They are this
 -- project's own.
-use Rattle.std.specs.Prelude.{◌≡◌, ◌≢◌, ℕ, ◌<◌, ◌≤◌, ◌+◌, ◌&&◌, Bool, true, false, not, List, [], ◌∷◌, ◌++◌, length, map, Option, Some, None, slice_get, if◌then◌else◌}
+use Rattle.std.specs.Prelude.{◌≡◌, ◌≢◌, ℕ, ◌<◌, ◌≤◌, ◌+◌, ◌&&◌, Bool, true, false, not, List, [], ◌∷◌, ◌++◌, length}
+use Rattle.std.specs.Prelude.{map, Option, Some, None, slice_get, if◌then◌else◌}
 use Rattle.std.specs.List.{filter, filter_map, zip, AllByRecursion}
 use Rattle.cw_types.specs.declared.ids.Item.TheVariants.{Task}
 use Rattle.cw_types.specs.declared.ids.Tid.TheVariants as producer

@@ -1,6 +1,7 @@
 -- The facts of the workers' rows and of each instance, of what it is and what it has in its phase, from which the
 -- facts of the group and of producers follow at the next event. They are this project's own.
-use Rattle.std.specs.Prelude.{◌≡◌, ◌≢◌, ℕ, ◌<◌, ◌≤◌, ◌^◌, ◌||◌, Bool, true, false, List, length, Any, Option, Some, None, IsSome, slice_get}
+use Rattle.std.specs.Prelude.{◌≡◌, ◌≢◌, ℕ, ◌<◌, ◌≤◌, ◌^◌, ◌||◌, Bool, true, false, List, length, Any, Option, Some}
+use Rattle.std.specs.Prelude.{None, IsSome, slice_get}
 use Rattle.std.specs.Bool.{⊤}
 use Rattle.std.specs.Option.{IsSomeAnd}
 use Rattle.std.specs.List.{AllByRecursion}

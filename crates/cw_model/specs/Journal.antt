@@ -1,7 +1,8 @@
 -- The journal of the calls that were answered: what a reply saw, when an entry is true, and the event that keeps one.
 -- Kafka Connect has no such journal: it is this project's own, and by it a reader's replies never go back, and hold
 -- what the reader wrote.
-use Rattle.std.specs.Prelude.{◌≡◌, ◌⊎◌, ◌<◌, ◌≤◌, ℕ, ◌&&◌, ◌==◌, Bool, true, false, List, [], ◌∷◌, ◌++◌, length, map, take, drop, nat_le, nat_lt, IsSome, if◌then◌else◌}
+use Rattle.std.specs.Prelude.{◌≡◌, ◌⊎◌, ◌<◌, ◌≤◌, ℕ, ◌&&◌, ◌==◌, Bool, true, false, List, [], ◌∷◌, ◌++◌, length, map}
+use Rattle.std.specs.Prelude.{take, drop, nat_le, nat_lt, IsSome, if◌then◌else◌}
 use Rattle.std.specs.Option.{option_map_or}
 use Rattle.std.specs.List.{AllByRecursion}
 use Rattle.cw_types.specs.declared.ids.Tid.TheVariants.{Lead}

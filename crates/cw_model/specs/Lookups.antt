@@ -1,6 +1,7 @@
 -- What is looked up in a state: a worker's row, an instance, what a worker has read of the config log, what it holds,
 -- which items are configured, and what stands in the transaction list.
-use Rattle.std.specs.Prelude.{ℕ, ◌==◌, ◌&&◌, Bool, true, false, not, List, [], ◌∷◌, length, map, take, drop, nat_lt, slice_index_or, Option, Some, None, unwrap_or, is_some}
+use Rattle.std.specs.Prelude.{ℕ, ◌==◌, ◌&&◌, Bool, true, false, not, List, [], ◌∷◌, length, map, take, drop, nat_lt}
+use Rattle.std.specs.Prelude.{slice_index_or, Option, Some, None, unwrap_or, is_some}
 use Rattle.std.specs.List.{filter, filter_map, flat_map, range_with_len}
 use Rattle.cw_types.specs.declared.ids.Item.{Item}
 use Rattle.cw_types.specs.declared.ids.Item.TheVariants.{Connector, Task}

@@ -3,7 +3,8 @@
 -- stores offsets and commits).
 use Rattle.std.specs.Prelude.{◌&&◌, ◌||◌, Bool, true, false, not}
 use Rattle.cw_model.specs.declared.instance.InstancePhase.{InstancePhase}
-use Rattle.cw_model.specs.declared.instance.InstancePhase.TheVariants.{Connector, New, Inited, Verified, Polling, Produced, Offered, Delivered, Failed, Ended}
+use Rattle.cw_model.specs.declared.instance.InstancePhase.TheVariants.{Connector, New, Inited, Verified, Polling}
+use Rattle.cw_model.specs.declared.instance.InstancePhase.TheVariants.{Produced, Offered, Delivered, Failed, Ended}
 
 pub record PhaseRow : Type 0 where
   -- it is a task at work: from its start on, and neither failed nor ended

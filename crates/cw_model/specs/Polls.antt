@@ -2,7 +2,8 @@
 -- that has something. A source's part has what its feed or sequence yields behind the position (Kafka Connect's
 -- SourceTask); a sink's topic has committed records that are stable (SinkTask). That a task takes one part at a time,
 -- and a sink at most 500 records, is this project's own.
-use Rattle.std.specs.Prelude.{ℕ, ◌+◌, ◌-◌, ◌&&◌, Bool, true, false, List, ◌++◌, length, map, take, min, nat_le, Option, is_some, option_map}
+use Rattle.std.specs.Prelude.{ℕ, ◌+◌, ◌-◌, ◌&&◌, Bool, true, false, List, ◌++◌, length, map, take, min, nat_le, Option}
+use Rattle.std.specs.Prelude.{is_some, option_map}
 use Rattle.std.specs.Option.{option_map_or}
 use Rattle.std.specs.List.{filter, find, fold, range_with_len, enumerate_from}
 use Rattle.cw_io.specs.Shelf.{Files}

@@ -16,7 +16,8 @@ use Rattle.cw_bytes.specs.Frames.{EachFrom, joined}
 use Rattle.cw_config.specs.declared.records.ConfigRecord.{ConfigRecord}
 use Rattle.cw_config.specs.Compaction.{config_in, configs_in}
 use Rattle.cw_log.specs.declared.fault.Harm.{Harm}
-use Rattle.cw_log.specs.declared.fault.Harm.TheVariants.{Magic, Version, Kind, Header, SameSide, Length, Content, Unsafe}
+use Rattle.cw_log.specs.declared.fault.Harm.TheVariants.{Magic, Version, Kind, Header, SameSide, Length, Content}
+use Rattle.cw_log.specs.declared.fault.Harm.TheVariants.{Unsafe}
 use Rattle.cw_assign.specs.declared.delay.Delay.TheVariants.{Idle}
 use Rattle.cw_group.specs.Group.{empty_group}
 use Rattle.cw_txn.specs.declared.entry.Entry.{Entry}

@@ -1,6 +1,7 @@
 -- What an instance of a task works on: its parts, its position in each, the transaction that it writes under, and what
 -- the feeds yield to it (KIP-618). An instance that is no task has no parts.
-use Rattle.std.specs.Prelude.{ℕ, ◌-◌, ◌==◌, Bool, false, not, List, [], length, take, slice_index, slice_index_or, slice_set, Some, unwrap_or, option_and_then}
+use Rattle.std.specs.Prelude.{ℕ, ◌-◌, ◌==◌, Bool, false, not, List, [], length, take, slice_index, slice_index_or}
+use Rattle.std.specs.Prelude.{slice_set, Some, unwrap_or, option_and_then}
 use Rattle.std.specs.Option.{option_map_or}
 use Rattle.std.specs.List.{slice_split}
 use Rattle.cw_types.specs.declared.ids.Tag.{Tag}

@@ -8,7 +8,10 @@ use Rattle.cw_model.specs.declared.tick.Tick.TheVariants as outcome
 use Rattle.cw_model.specs.State.{Cluster}
 use Rattle.cw_model.specs.Lookups.{row_of}
 use Rattle.cw_model.specs.Answers.{Answer, answered}
-use Rattle.cw_model.specs.TickRules.{Rule, rule, when, read_applies, reads, stop_applies, deaf_stop_applies, stops, join_applies, joins, close_applies, closes, plan_applies, plans, sync_applies, syncs, lead_applies, takes_lead, propose_applies, proposes, fence_applies, fences, mark_applies, marks_ended, start_applies, starts, report_applies, reports_state}
+use Rattle.cw_model.specs.TickRules.{Rule, rule, when, read_applies, reads, stop_applies, deaf_stop_applies, stops}
+use Rattle.cw_model.specs.TickRules.{join_applies, joins, close_applies, closes, plan_applies, plans, sync_applies}
+use Rattle.cw_model.specs.TickRules.{syncs, lead_applies, takes_lead, propose_applies, proposes, fence_applies, fences}
+use Rattle.cw_model.specs.TickRules.{mark_applies, marks_ended, start_applies, starts, report_applies, reports_state}
 
 -- the rules of a worker that hears, in their order
 abbrev pub rules : ℕ → Cluster → List Rule

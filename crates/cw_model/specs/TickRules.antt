@@ -1,7 +1,9 @@
 -- What each rule of a worker's tick asks, and what it does: for each rule first where it applies, and then the one
 -- event that it makes (Connect's distributed herder; KIP-415 for the group, KIP-618 for fences). Where exactly a rule
 -- applies is this project's own.
-use Rattle.std.specs.Prelude.{ℕ, ◌==◌, ◌&&◌, ◌||◌, Bool, true, false, not, List, [], ◌∷◌, map, length, filter, nat_lt, position, slice_get, Option, Some, None, is_some, is_none, unwrap_or, option_map, Result, Ok, Err, bytes_eq, if◌then◌else◌}
+use Rattle.std.specs.Prelude.{ℕ, ◌==◌, ◌&&◌, ◌||◌, Bool, true, false, not, List, [], ◌∷◌, map, length, filter, nat_lt}
+use Rattle.std.specs.Prelude.{position, slice_get, Option, Some, None, is_some, is_none, unwrap_or, option_map, Result}
+use Rattle.std.specs.Prelude.{Ok, Err, bytes_eq, if◌then◌else◌}
 use Rattle.std.specs.Option.{option_or, option_map_or}
 use Rattle.std.specs.List.{find, filter_map}
 use Rattle.std.specs.Cmp.Lexicographic.{pointwise}

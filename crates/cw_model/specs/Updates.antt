@@ -2,7 +2,8 @@
 -- its log, and as its stamp how long the transaction list was (this project's own). A log that has no room for a
 -- frame, or no offset for a record, is full. A leader or a task that writes under an epoch that isn't its producer's
 -- last is fenced (KIP-98, KIP-618).
-use Rattle.std.specs.Prelude.{ℕ, ◌+◌, ◌^◌, ◌==◌, ◌&&◌, Bool, List, [], ◌∷◌, ◌++◌, map, nat_lt, slice_set, Option, Some, None, if◌then◌else◌}
+use Rattle.std.specs.Prelude.{ℕ, ◌+◌, ◌^◌, ◌==◌, ◌&&◌, Bool, List, [], ◌∷◌, ◌++◌, map, nat_lt, slice_set, Option, Some}
+use Rattle.std.specs.Prelude.{None, if◌then◌else◌}
 use Rattle.std.specs.List.{flat_map, list_all}
 use Rattle.cw_types.specs.declared.ids.Epoch.{Epoch}
 use Rattle.cw_types.specs.declared.ids.TaskId.{TaskId}
@@ -31,7 +32,8 @@ use Rattle.cw_model.specs.declared.instance.InstancePhase.TheVariants.{Ended}
 use Rattle.cw_model.specs.State.{Cluster, StampedStatus}
 use Rattle.cw_model.specs.Lookups.{row_of, instance_of, last_epoch, list_end}
 use Rattle.cw_model.specs.Answers.{Answer, refused, answered}
-use Rattle.cw_model.specs.Bodies.{config_applied, status_applied, config_body, status_body, config_length, offsets_length, status_length, txn_length, data_length, frame_of, has_room}
+use Rattle.cw_model.specs.Bodies.{config_applied, status_applied, config_body, status_body, config_length}
+use Rattle.cw_model.specs.Bodies.{offsets_length, status_length, txn_length, data_length, frame_of, has_room}
 
 -- a worker's row, changed
 abbrev pub changes_row : ℕ → (Row → Row) → Cluster → Cluster

@@ -1,6 +1,7 @@
 -- Clusters of worked cases: some of which a sentence of safety is false, some whose ticks are told, and the story of
 -- one source connector from its creation to its first commit.
-use Rattle.std.specs.Prelude.{ℕ, List, [], ◌∷◌, ◌++◌, codes, decimal, replicate, Option, Some, None, Result, Ok, Err, map, true, false}
+use Rattle.std.specs.Prelude.{ℕ, List, [], ◌∷◌, ◌++◌, codes, decimal, replicate, Option, Some, None, Result, Ok, Err}
+use Rattle.std.specs.Prelude.{map, true, false}
 use Rattle.cw_types.specs.declared.ids.TaskId.{TaskId}
 use Rattle.cw_types.specs.declared.ids.Epoch.{Epoch}
 use Rattle.cw_types.specs.declared.ids.Tag.{Tag}

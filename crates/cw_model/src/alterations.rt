@@ -12,7 +12,8 @@ ghost use Rattle.cw_model.specs.Answers.{refused};
 ghost use Rattle.cw_model.specs.Bodies.{config_length, config_body, frame_of, has_room};
 ghost use Rattle.cw_model.specs.Updates.{stamped, epoch_in};
 ghost use Rattle.cw_model.specs.EventsLeading.{append_config, MaySetOffsets};
-ghost use Rattle.cw_model.specs.Cases.{name_s, part_s, tid_s, epoch, producing, stopping, stopped, offset_set, altered_to, out_of_offsets};
+ghost use Rattle.cw_model.specs.Cases.{name_s, part_s, tid_s, epoch, producing, stopping, stopped, offset_set};
+ghost use Rattle.cw_model.specs.Cases.{altered_to, out_of_offsets};
 
 /// Offsets may not be altered while the connector is started. Once it is stopped, one frame of the transaction log
 /// fences its producers and sets the offsets.

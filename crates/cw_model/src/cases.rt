@@ -4,9 +4,11 @@ ghost use Rattle.cw_model.specs.declared.fault.WorldFault.{WorldFault};
 ghost use Rattle.cw_model.specs.declared.instance.InstancePhase.{InstancePhase};
 ghost use Rattle.cw_model.specs.Lookups.{row_of, instance_of};
 ghost use Rattle.cw_model.specs.Answers.{refused};
-ghost use Rattle.cw_model.specs.EventsLeading.{claim_lead, append_config, fence_one, append_fence, MayFence, MayAppendFence};
+ghost use Rattle.cw_model.specs.EventsLeading.{claim_lead, append_config, fence_one, append_fence, MayFence};
+ghost use Rattle.cw_model.specs.EventsLeading.{MayAppendFence};
 ghost use Rattle.cw_model.specs.EventsSources.{verify, fetch, commit};
-ghost use Rattle.cw_model.specs.Cases.{behind, answer_of, name_s, epoch, unfenced, nearly_fenced, wholly_fenced, polling, with_second_leader, led_by_another, stopping, verified_later};
+ghost use Rattle.cw_model.specs.Cases.{behind, answer_of, name_s, epoch, unfenced, nearly_fenced, wholly_fenced};
+ghost use Rattle.cw_model.specs.Cases.{polling, with_second_leader, led_by_another, stopping, verified_later};
 
 /// A task of an older set has produced and offered; the leader fences it, and its commit is refused (KIP-618).
 pub fn zombie_commits_no_more_once_fenced()

@@ -14,7 +14,9 @@ ghost use Rattle.cw_model.specs.StandsFor.{StandFor, IsFirstHarm};
 ghost use Rattle.cw_model.specs.Tick.{tick};
 ghost use Rattle.cw_model.specs.Quiet.{IsQuiet, IsDoneFor};
 ghost use Rattle.cw_model.specs.Cases.{empty_cluster};
-ghost use Rattle.cw_model.specs.WorkedCases.{overtaken, doubled, unbacked, one_worker, killed_worker, deaf_worker, no_bodies, one_byte, setting, name, part, plays, ticks, beginning, middle, ending, lines, led, started, committed, outrun, first_tag, shifted_cut};
+ghost use Rattle.cw_model.specs.WorkedCases.{overtaken, doubled, unbacked, one_worker, killed_worker, deaf_worker};
+ghost use Rattle.cw_model.specs.WorkedCases.{no_bodies, one_byte, setting, name, part, plays, ticks, beginning, middle};
+ghost use Rattle.cw_model.specs.WorkedCases.{ending, lines, led, started, committed, outrun, first_tag, shifted_cut};
 
 /// Where nothing was ever written, the cluster is safe, whatever its feeds.
 pub fn empty_cluster_is_safe()

@@ -2,7 +2,8 @@
 ghost use Rattle.std.specs.Prelude.{◌≡◌, ◌∷◌, [], Ok};
 ghost use Rattle.cw_model.specs.Lookups.{row_of};
 ghost use Rattle.cw_model.specs.EventsWorkers.{clock};
-ghost use Rattle.cw_model.specs.Cases.{behind, answer_of, connector_s, task_s, at_one_worker, revoked_from_one, at_two_workers, lost_one, waiting_out, given_back};
+ghost use Rattle.cw_model.specs.Cases.{behind, answer_of, connector_s, task_s, at_one_worker, revoked_from_one};
+ghost use Rattle.cw_model.specs.Cases.{at_two_workers, lost_one, waiting_out, given_back};
 ghost use Rattle.cw_assign.specs.declared.delay.Delay.TheVariants.{Idle, Until};
 
 /// A second worker comes: the first round takes a task from the first worker and gives it to nobody, and only the

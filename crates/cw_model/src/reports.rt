@@ -6,7 +6,8 @@ ghost use Rattle.cw_model.specs.Lookups.{held};
 ghost use Rattle.cw_model.specs.EventsWorkers.{deaf};
 ghost use Rattle.cw_model.specs.EventsItems.{restart};
 ghost use Rattle.cw_model.specs.EventsReports.{put_status};
-ghost use Rattle.cw_model.specs.Cases.{behind, played, task_s, polling, status_records, failed_then_reported, at_two_workers};
+ghost use Rattle.cw_model.specs.Cases.{behind, played, task_s, polling, status_records, failed_then_reported};
+ghost use Rattle.cw_model.specs.Cases.{at_two_workers};
 
 /// A task is reported as it runs, and with its trace once it has failed.
 pub fn failed_task_is_reported_with_its_trace()

@@ -12,7 +12,11 @@ ghost use Rattle.cw_model.specs.EventsSources.{produce, commit, is_bad_cut};
 ghost use Rattle.cw_model.specs.Tasks.{part_at, yielded};
 ghost use Rattle.cw_model.specs.EventsMarking.{mark};
 ghost use Rattle.cw_model.specs.EventsCompaction.{compact};
-ghost use Rattle.cw_model.specs.Cases.{behind, answer_of, empty_cluster, small_setting, name_s, part_s, span_s, tag_s, polling, cut_to, offered, both_committed, sunk, sink_part, script_begun, script_begun_again, commit_five, feed_f, file_task, two_task_sets, task_config_s, with_frames, offsets_in, older_target, opened_older, twice_committed};
+ghost use Rattle.cw_model.specs.Cases.{behind, answer_of, empty_cluster, small_setting, name_s, part_s, span_s, tag_s};
+ghost use Rattle.cw_model.specs.Cases.{polling, cut_to, offered, both_committed, sunk, sink_part, script_begun};
+ghost use Rattle.cw_model.specs.Cases.{script_begun_again, commit_five, feed_f, file_task, two_task_sets};
+ghost use Rattle.cw_model.specs.Cases.{task_config_s, with_frames, offsets_in, older_target, opened_older};
+ghost use Rattle.cw_model.specs.Cases.{twice_committed};
 
 /// A source's task writes records and their offset, and commits both at once (KIP-618).
 pub fn task_commits_records_with_their_offset()

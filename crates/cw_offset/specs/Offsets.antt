@@ -1,6 +1,7 @@
 -- What is committed of a part (KIP-618): an offset that a task stores waits under its transaction until that is
 -- marked, and one that a user sets counts at once.
-use Rattle.std.specs.Prelude.{ℕ, Bool, true, false, ◌&&◌, List, [], ◌∷◌, Option, None, Some, is_none, unwrap_or, option_and_then, if◌then◌else◌}
+use Rattle.std.specs.Prelude.{ℕ, Bool, true, false, ◌&&◌, List, [], ◌∷◌, Option, None, Some, is_none, unwrap_or}
+use Rattle.std.specs.Prelude.{option_and_then, if◌then◌else◌}
 use Rattle.std.specs.Option.{option_or}
 use Rattle.std.specs.List.{cons_option, find}
 use Rattle.cw_types.specs.Verdict.{has_ended}

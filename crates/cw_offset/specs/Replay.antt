@@ -1,7 +1,8 @@
 -- The calls by which an opening replays the offset log: the transaction list is walked in order, since of a part the
 -- commit that is later there counts (KIP-618), and what a user set counts from where it stands (KIP-875). That open
 -- transactions' records come behind the list is this project's own.
-use Rattle.std.specs.Prelude.{◌≡◌, ◌++◌, Bool, true, false, not, List, [], ◌∷◌, map, Option, Some, option_map, option_and_then, if◌then◌else◌}
+use Rattle.std.specs.Prelude.{◌≡◌, ◌++◌, Bool, true, false, not, List, [], ◌∷◌, map, Option, Some, option_map}
+use Rattle.std.specs.Prelude.{option_and_then, if◌then◌else◌}
 use Rattle.std.specs.List.{filter_map, flat_map}
 use Rattle.cw_types.specs.declared.ids.Tag.{Tag}
 use Rattle.cw_types.specs.declared.ids.PartKey.{PartKey}

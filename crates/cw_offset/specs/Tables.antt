@@ -1,5 +1,7 @@
 -- What the tables keep of the calls, so that no look-up walks them. Internal: no public contract cites this.
-use Rattle.std.specs.Prelude.{◌≡◌, ℕ, ◌+◌, ◌≤◌, ◌<◌, ◌^◌, Bool, false, ◌&&◌, ◌==◌, List, [], ◌∷◌, length, Contains, Option, None, Some, IsSome, is_none, option_map, unwrap_or, slice_index_or, take, if◌then◌else◌}
+use Rattle.std.specs.Prelude.{◌≡◌, ℕ, ◌+◌, ◌≤◌, ◌<◌, ◌^◌, Bool, false, ◌&&◌, ◌==◌, List, [], ◌∷◌, length, Contains}
+use Rattle.std.specs.Prelude.{Option, None, Some, IsSome, is_none, option_map, unwrap_or, slice_index_or, take}
+use Rattle.std.specs.Prelude.{if◌then◌else◌}
 use Rattle.std.specs.Bool.{⊤}
 use Rattle.std.specs.Option.{option_or}
 use Rattle.std.specs.List.{find, filter_map}
@@ -13,7 +15,8 @@ use Rattle.cw_types.specs.Verdict.{has_ended}
 use Rattle.cw_offset.specs.declared.call.OffsetCall.{OffsetCall}
 use Rattle.cw_offset.specs.declared.call.OffsetCall.TheVariants.{Stand, Put, Commit, Abort, Set}
 use Rattle.cw_offset.specs.declared.call.CallRef.{CallRef}
-use Rattle.cw_offset.specs.declared.call.CallRef.TheVariants.{Stand as StandRef, Put as PutRef, Commit as CommitRef, Abort as AbortRef, Set as SetRef}
+use Rattle.cw_offset.specs.declared.call.CallRef.TheVariants.{Stand as StandRef, Put as PutRef, Commit as CommitRef}
+use Rattle.cw_offset.specs.declared.call.CallRef.TheVariants.{Abort as AbortRef, Set as SetRef}
 use Rattle.cw_offset.specs.declared.under.Settled.{Settled}
 use Rattle.cw_offset.specs.declared.under.Under.{Under}
 use Rattle.cw_offset.specs.declared.tables.Tables.{Tables}

@@ -1,5 +1,6 @@
 //! What is kept of the calls, so that no look-up walks them.
-ghost use Rattle.std.specs.Prelude.{◌≡◌, ◌≤◌, ◌<◌, ◌+◌, ◌^◌, ◌++◌, ◌∷◌, [], ℕ, ◌==◌, false, OnOk, IsSome, Some, None, is_none, option_copied, option_map, if◌then◌else◌};
+ghost use Rattle.std.specs.Prelude.{◌≡◌, ◌≤◌, ◌<◌, ◌+◌, ◌^◌, ◌++◌, ◌∷◌, [], ℕ, ◌==◌, false, OnOk, IsSome, Some, None};
+ghost use Rattle.std.specs.Prelude.{is_none, option_copied, option_map, if◌then◌else◌};
 ghost use Rattle.std.specs.BTreeMap.{get, values, IsOrdered};
 ghost use Rattle.std.specs.Ordering.{nat_cmp};
 ghost use Rattle.cw_types.specs.declared.ids.Tag.{Tag};
@@ -26,7 +27,8 @@ impl Tables {
     ghost use Rattle.std.specs.Prelude.{List};
     ghost use Rattle.cw_offset.specs.declared.call.OffsetCall.{OffsetCall};
     ghost use Rattle.cw_offset.specs.Rows.{settled_at, HasPart};
-    ghost use Rattle.cw_offset.specs.Tables.{call_of, under_at, Keeps, HasRows, HasRoom, HasUnder, HasPartIn, Uses, Roomier, BacksParts, StandsBefore};
+    ghost use Rattle.cw_offset.specs.Tables.{call_of, under_at, Keeps, HasRows, HasRoom, HasUnder, HasPartIn, Uses};
+    ghost use Rattle.cw_offset.specs.Tables.{Roomier, BacksParts, StandsBefore};
 
     /// With no row.
     pub fn new(alloc: Global) -> Tables
@@ -218,7 +220,8 @@ impl Tables {
 
 ghost use Rattle.cw_offset.specs.declared.under.Under.{Under};
 ghost use Rattle.cw_offset.specs.Rows.{settled_at, waits_in, later, begun, ended, HasPart};
-ghost use Rattle.cw_offset.specs.Tables.{first_in, put_in, under_at, stands_at, is_place, first_ended, if_ended, IsFresh, Changes, Puts, MakesRows, HasUnder, HasPartIn};
+ghost use Rattle.cw_offset.specs.Tables.{first_in, put_in, under_at, stands_at, is_place, first_ended, if_ended};
+ghost use Rattle.cw_offset.specs.Tables.{IsFresh, Changes, Puts, MakesRows, HasUnder, HasPartIn};
 
 // A row of a part, which reads as none where it is new.
 fn make_part(

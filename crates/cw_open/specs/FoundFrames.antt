@@ -1,6 +1,7 @@
 -- What is found in a log's bodies, as they are shown one by one while its file is read: a frame of each and where its
 -- gate stands, or the gate of the first that can't be read. This project's own.
-use Rattle.std.specs.Prelude.{◌≡◌, ◌≢◌, ℕ, ◌+◌, ◌<◌, ◌≤◌, List, [], ◌∷◌, ◌++◌, length, take, slice_index_or, Option, Some, None, Result, MatchResult}
+use Rattle.std.specs.Prelude.{◌≡◌, ◌≢◌, ℕ, ◌+◌, ◌<◌, ◌≤◌, List, [], ◌∷◌, ◌++◌, length, take, slice_index_or, Option}
+use Rattle.std.specs.Prelude.{Some, None, Result, MatchResult}
 use Rattle.std.specs.List.{AllByRecursion}
 use Rattle.cw_bytes.specs.declared.body.BodyFault.{BodyFault}
 use Rattle.cw_bytes.specs.declared.body.BodyFault.TheVariants.{Memory}

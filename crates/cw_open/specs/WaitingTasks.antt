@@ -1,5 +1,6 @@
 -- Which tasks wait for their connector's commit, and whose a part is. Internal.
-use Rattle.std.specs.Prelude.{◌≡◌, ◌↔◌, ◌⊎◌, ◌==◌, ℕ, ◌<◌, Bool, true, false, not, IsTrue, List, Contains, Option, Some, None, IsSome}
+use Rattle.std.specs.Prelude.{◌≡◌, ◌↔◌, ◌⊎◌, ◌==◌, ℕ, ◌<◌, Bool, true, false, not, IsTrue, List, Contains, Option, Some}
+use Rattle.std.specs.Prelude.{None, IsSome}
 use Rattle.std.specs.BTreeMap.{BTreeMap, get}
 use Rattle.cw_types.specs.declared.ids.PartKey.{PartKey}
 use Rattle.cw_types.specs.declared.ids.TaskId.{TaskId}

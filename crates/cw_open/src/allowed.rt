@@ -8,7 +8,8 @@ ghost use Rattle.cw_types.specs.declared.ids.Tid.{Tid};
 ghost use Rattle.cw_types.specs.declared.ids.PartKey.{PartKey};
 ghost use Rattle.cw_types.specs.Same.{same_part, connector_of, part_order};
 ghost use Rattle.cw_txn.specs.declared.entry.Entry.{Entry};
-ghost use Rattle.cw_txn.specs.Allowed.{IsRaw, IsSourceOf, IsSinkOf, CommitsOwn, SetsOwn, IsAllowedBehind, IsAllowedCommit, IsAllowedSet};
+ghost use Rattle.cw_txn.specs.Allowed.{IsRaw, IsSourceOf, IsSinkOf, CommitsOwn, SetsOwn, IsAllowedBehind};
+ghost use Rattle.cw_txn.specs.Allowed.{IsAllowedCommit, IsAllowedSet};
 
 use crate::entries::EntryList;
 use cw_txn::{Entry, SetOffset};

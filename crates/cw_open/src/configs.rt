@@ -1,11 +1,13 @@
 //! The config log.
-ghost use Rattle.std.specs.Prelude.{◌≡◌, ◌↔◌, ℕ, List, [], Option, Some, None, IfOk, IsTrue, IsSome, option_map, if◌then◌else◌};
+ghost use Rattle.std.specs.Prelude.{◌≡◌, ◌↔◌, ℕ, List, [], Option, Some, None, IfOk, IsTrue, IsSome, option_map};
+ghost use Rattle.std.specs.Prelude.{if◌then◌else◌};
 ghost use Rattle.cw_keys.specs.declared.config_key.ConfigKey.{ConfigKey};
 ghost use Rattle.cw_config.specs.declared.records.ConfigRecord.{ConfigRecord};
 ghost use Rattle.cw_config.specs.Compaction.{config_in, configs_in};
 ghost use Rattle.cw_config.specs.View.{target_of, generation_of, task_count_of};
 ghost use Rattle.cw_plugin.specs.Parts.{task_of};
-ghost use Rattle.cw_model.specs.ConfigsAllowed.{IsAllowedConfig, AreAllowedConfigs, FitsBehind, FitsCommit, FitsTarget, FitsFence};
+ghost use Rattle.cw_model.specs.ConfigsAllowed.{IsAllowedConfig, AreAllowedConfigs, FitsBehind, FitsCommit, FitsTarget};
+ghost use Rattle.cw_model.specs.ConfigsAllowed.{FitsFence};
 ghost use Rattle.cw_model.specs.StandsFor.{judged, IsAllowedFrame};
 ghost use Rattle.cw_open.specs.Judging.{Says, Steps};
 ghost use Rattle.cw_open.specs.PassedConfigs.{TakesConfig, TakesConfigs, MayBeStopped, with_config};

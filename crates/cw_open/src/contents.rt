@@ -1,7 +1,8 @@
 //! Whether all bodies of the logs can be read.
 ghost use Rattle.std.specs.Prelude.{◌≡◌, Some, IfOk, IfErr};
 ghost use Rattle.cw_model.specs.StandsFor.{Stored};
-ghost use Rattle.cw_open.specs.Contents.{AreFoundIn, AreReadLogs, IsFoundOf, SaysWhatIsRead, frames_of, gates_of, logs_read};
+ghost use Rattle.cw_open.specs.Contents.{AreFoundIn, AreReadLogs, IsFoundOf, SaysWhatIsRead, frames_of, gates_of};
+ghost use Rattle.cw_open.specs.Contents.{logs_read};
 ghost use Rattle.cw_open.specs.OpenedFrom.{AreFrom, DisksStay};
 ghost use Rattle.cw_open.specs.Reopened.{CauseFrom, DiskFiles, TellAll, all_logs};
 

@@ -1,5 +1,6 @@
 //! The fences that the config log has.
-ghost use Rattle.std.specs.Prelude.{◌≡◌, ◌↔◌, ◌≤◌, ℕ, [], ◌∷◌, ◌++◌, List, IfOk, OnOk, IsTrue, All, Some, is_some, ◌&&◌, if◌then◌else◌};
+ghost use Rattle.std.specs.Prelude.{◌≡◌, ◌↔◌, ◌≤◌, ℕ, [], ◌∷◌, ◌++◌, List, IfOk, OnOk, IsTrue, All, Some, is_some};
+ghost use Rattle.std.specs.Prelude.{◌&&◌, if◌then◌else◌};
 ghost use Rattle.std.specs.List.{filter_map};
 ghost use Rattle.std.specs.BTreeMap.{get, is_at};
 ghost use Rattle.cw_types.specs.Order.{name_cmp};

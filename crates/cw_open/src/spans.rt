@@ -1,5 +1,6 @@
 //! The spans that have a batch.
-ghost use Rattle.std.specs.Prelude.{◌≡◌, ◌↔◌, [], ◌∷◌, ◌++◌, List, IfOk, OnOk, IsTrue, Some, true, is_some, if◌then◌else◌};
+ghost use Rattle.std.specs.Prelude.{◌≡◌, ◌↔◌, [], ◌∷◌, ◌++◌, List, IfOk, OnOk, IsTrue, Some, true, is_some};
+ghost use Rattle.std.specs.Prelude.{if◌then◌else◌};
 ghost use Rattle.std.specs.List.{Any, AllByRecursion};
 ghost use Rattle.std.specs.BTreeMap.{get, is_at};
 ghost use Rattle.cw_data.specs.declared.entry.DataEntry.{DataEntry};

@@ -2,7 +2,8 @@
 use Rattle.cw_route.specs.declared.reply.Reply.{Reply}
 use Rattle.cw_rest.specs.Messages.{memory_reply, full_reply, failed_reply, rebalancing}
 use Rattle.cw_model.specs.declared.fault.WorldFault.{WorldFault}
-use Rattle.cw_model.specs.declared.fault.WorldFault.TheVariants.{Fenced, StaleGeneration, PendingFence, BadCut, Gone, Full, StoreFault, Closed, Dead, Group, TooMany, Memory}
+use Rattle.cw_model.specs.declared.fault.WorldFault.TheVariants.{Fenced, StaleGeneration, PendingFence, BadCut, Gone}
+use Rattle.cw_model.specs.declared.fault.WorldFault.TheVariants.{Full, StoreFault, Closed, Dead, Group, TooMany, Memory}
 
 -- a disk failed, now or before; a log is full; memory ran out; or the worker can't write now
 abbrev pub fault_reply : WorldFault → Reply

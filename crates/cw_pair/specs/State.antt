@@ -1,5 +1,6 @@
 -- A log on two sides, as contracts see it, and what a stop leaves of both disks.
-use Rattle.std.specs.Prelude.{◌≡◌, ◌⊎◌, ◌==◌, ℕ, List, [], ◌∷◌, Option, Some, None, Bool, true, false, drop, if◌then◌else◌}
+use Rattle.std.specs.Prelude.{◌≡◌, ◌⊎◌, ◌==◌, ℕ, List, [], ◌∷◌, Option, Some, None, Bool, true, false, drop}
+use Rattle.std.specs.Prelude.{if◌then◌else◌}
 use Rattle.cw_disk.specs.declared.device.Disk.{Ghosts}
 use Rattle.cw_disk.specs.Disk.{Only}
 use Rattle.cw_disk.specs.Told.{ReadsOf}

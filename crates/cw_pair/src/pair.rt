@@ -1,5 +1,6 @@
 // A log on two disks.
-ghost use Rattle.std.specs.Prelude.{◌≡◌, ◌⊎◌, ◌≤◌, ◌<◌, ◌+◌, ◌-◌, ◌^◌, ◌&&◌, All, List, ℕ, Option, Some, None, false, true, [], length, IfOk, IfErr, OnOk, OnErr, MatchResult, is_some, option_map};
+ghost use Rattle.std.specs.Prelude.{◌≡◌, ◌⊎◌, ◌≤◌, ◌<◌, ◌+◌, ◌-◌, ◌^◌, ◌&&◌, All, List, ℕ, Option, Some, None, false};
+ghost use Rattle.std.specs.Prelude.{true, [], length, IfOk, IfErr, OnOk, OnErr, MatchResult, is_some, option_map};
 ghost use Rattle.cw_disk.specs.Disk.{AddsOf};
 ghost use Rattle.cw_disk.specs.Told.{Told};
 ghost use Rattle.cw_types.specs.Faults.{Rose};
@@ -7,7 +8,8 @@ ghost use Rattle.cw_log.specs.Log.{IsBody, OnCause, kind_of, length_of};
 ghost use Rattle.cw_log.specs.State.{FailedOn};
 ghost use Rattle.cw_log.specs.Compaction.{IsCompactable, OnCompactFault, bodies_in};
 ghost use Rattle.cw_pair.specs.Pair.{IsPairDamaged, IsRight, PairStandsFor};
-ghost use Rattle.cw_pair.specs.State.{HasSamePair, MayLeave, Opens, OpensPairAs, StandsSince, bodies_of, disks_of, faults_of, side_of};
+ghost use Rattle.cw_pair.specs.State.{HasSamePair, MayLeave, Opens, OpensPairAs, StandsSince, bodies_of, disks_of};
+ghost use Rattle.cw_pair.specs.State.{faults_of, side_of};
 
 use crate::choice::choose;
 use crate::open::open_chosen;

@@ -1,6 +1,7 @@
 -- When a connector's config may be taken, and which fault comes first. Kafka Connect checks a config before it stores
 -- it; the faults and their order are this project's own.
-use Rattle.std.specs.Prelude.{ℕ, ◌==◌, Bool, true, false, not, List, [], ◌∷◌, length, Option, Some, None, option_map, Result, Ok, Err, codes, bytes_eq, if◌then◌else◌}
+use Rattle.std.specs.Prelude.{ℕ, ◌==◌, Bool, true, false, not, List, [], ◌∷◌, length, Option, Some, None, option_map}
+use Rattle.std.specs.Prelude.{Result, Ok, Err, codes, bytes_eq, if◌then◌else◌}
 use Rattle.std.specs.List.{list_any}
 use Rattle.std.specs.Option.{is_none}
 use Rattle.cw_types.specs.Name.{name_fault}
@@ -9,7 +10,8 @@ use Rattle.cw_plugin.specs.declared.class.Class.{Class}
 use Rattle.cw_plugin.specs.declared.class.Field.{Field}
 use Rattle.cw_plugin.specs.declared.class.Field.TheVariants.{Feed, Feeds, Sequences, Count, Topic, Outlet, Topics}
 use Rattle.cw_plugin.specs.declared.fault.PluginFault.{PluginFault}
-use Rattle.cw_plugin.specs.declared.fault.PluginFault.TheVariants.{NoClass, UnknownClass, Missing, BadInt, NoFeed, BadName}
+use Rattle.cw_plugin.specs.declared.fault.PluginFault.TheVariants.{NoClass, UnknownClass, Missing, BadInt, NoFeed}
+use Rattle.cw_plugin.specs.declared.fault.PluginFault.TheVariants.{BadName}
 use Rattle.cw_plugin.specs.Classes.{ClassRow, row_of, class_of, key_of, is_list}
 use Rattle.cw_plugin.specs.Lists.{elements}
 use Rattle.cw_plugin.specs.Numbers.{tasks_max, batch_size, sequences, count}

@@ -2,7 +2,8 @@
 -- FileStream classes are Kafka's own and have Kafka's names; the other two are this project's.
 use Rattle.std.specs.Prelude.{ℕ, Bool, true, false, List, [], ◌∷◌, Option, Some, None, codes, bytes_eq, if◌then◌else◌}
 use Rattle.cw_plugin.specs.declared.class.Class.{Class}
-use Rattle.cw_plugin.specs.declared.class.Class.TheVariants.{FileStreamSource, FileSetSource, SequenceSource, FileStreamSink}
+use Rattle.cw_plugin.specs.declared.class.Class.TheVariants.{FileStreamSource, FileSetSource, SequenceSource}
+use Rattle.cw_plugin.specs.declared.class.Class.TheVariants.{FileStreamSink}
 use Rattle.cw_plugin.specs.declared.class.Field.{Field}
 use Rattle.cw_plugin.specs.declared.class.Field.TheVariants.{Feed, Feeds, Sequences, Count, Topic, Outlet, Topics}
 use Rattle.cw_plugin.specs.declared.class.TaskField.{TaskField}

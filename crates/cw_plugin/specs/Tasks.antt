@@ -1,13 +1,16 @@
 -- Which tasks a connector has. As in Kafka Connect, there are at most `tasks.max`, and each has properties of its own;
 -- how a list is parted among them is this project's own.
-use Rattle.std.specs.Prelude.{◌≡◌, ℕ, suc, zero, ◌+◌, ◌-◌, ◌/◌, ◌%◌, min, not, List, [], ◌∷◌, length, take, drop, map, filter, Contains, All, AllPairs, Option, Some, None, option_map, option_and_then, unwrap_or, codes, decimal, bytes_eq, IsOk, IsSome, ◌++◌, if◌then◌else◌}
+use Rattle.std.specs.Prelude.{◌≡◌, ℕ, suc, zero, ◌+◌, ◌-◌, ◌/◌, ◌%◌, min, not, List, [], ◌∷◌, length, take, drop, map}
+use Rattle.std.specs.Prelude.{filter, Contains, All, AllPairs, Option, Some, None, option_map, option_and_then}
+use Rattle.std.specs.Prelude.{unwrap_or, codes, decimal, bytes_eq, IsOk, IsSome, ◌++◌, if◌then◌else◌}
 use Rattle.std.specs.List.{list_any, filter_map, flat_map, join_with_byte, range_with_len}
 use Rattle.std.specs.Option.{option_map_or}
 use Rattle.cw_types.specs.declared.ids.PartKey.{PartKey}
 use Rattle.cw_types.specs.declared.ids.PartKey.TheVariants.{File, Seq, Sink}
 use Rattle.cw_json.specs.Pairs.{value_in}
 use Rattle.cw_plugin.specs.declared.class.Class.{Class}
-use Rattle.cw_plugin.specs.declared.class.Class.TheVariants.{FileStreamSource, FileSetSource, SequenceSource, FileStreamSink}
+use Rattle.cw_plugin.specs.declared.class.Class.TheVariants.{FileStreamSource, FileSetSource, SequenceSource}
+use Rattle.cw_plugin.specs.declared.class.Class.TheVariants.{FileStreamSink}
 use Rattle.cw_plugin.specs.declared.class.Field.{Field}
 use Rattle.cw_plugin.specs.declared.class.Field.TheVariants.{Feed, Feeds, Sequences, Count, Topic, Outlet, Topics}
 use Rattle.cw_plugin.specs.declared.class.TaskField.{TaskField}

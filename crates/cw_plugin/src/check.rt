@@ -5,7 +5,9 @@ ghost use Rattle.std.specs.List.{list_any};
 ghost use Rattle.cw_types.specs.Answers.{Gives};
 ghost use Rattle.cw_json.specs.Pairs.{value_in};
 ghost use Rattle.cw_plugin.specs.Classes.{row_of, key_of};
-ghost use Rattle.cw_plugin.specs.Checks.{checked, fault_of_class, is_name, is_among, first_failing, is_lacking, missing_key, is_bad_number, is_value_bad, bad_key, bad_number, feed_lacking_in, value_feed_lacking, feed_lacking, is_bad_name};
+ghost use Rattle.cw_plugin.specs.Checks.{checked, fault_of_class, is_name, is_among, first_failing, is_lacking};
+ghost use Rattle.cw_plugin.specs.Checks.{missing_key, is_bad_number, is_value_bad, bad_key, bad_number};
+ghost use Rattle.cw_plugin.specs.Checks.{feed_lacking_in, value_feed_lacking, feed_lacking, is_bad_name};
 ghost use Rattle.cw_plugin.specs.Loaded.{is_loaded_by};
 ghost use Rattle.cw_plugin.specs.Tasks.{IsFaultless};
 

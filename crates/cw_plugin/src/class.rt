@@ -1,6 +1,7 @@
 //! The table of connector classes.
 ghost use Rattle.std.specs.Prelude.{◌≡◌, bytes_eq, option_map};
-ghost use Rattle.cw_plugin.specs.Classes.{row_of, key_of, task_key, is_list, is_called, is_text, class_of, class_among, task_class_of, task_class_among};
+ghost use Rattle.cw_plugin.specs.Classes.{row_of, key_of, task_key, is_list, is_called, is_text, class_of, class_among};
+ghost use Rattle.cw_plugin.specs.Classes.{task_class_of, task_class_among};
 
 /// A connector class.
 #[derive(Clone, Copy, Debug, PartialEq, Eq, Drop)]

@@ -4,7 +4,8 @@ ghost use Rattle.std.specs.List.{filter_map};
 ghost use Rattle.std.specs.Option.{option_to_list, option_copied};
 ghost use Rattle.cw_json.specs.Pairs.{value_in};
 ghost use Rattle.cw_plugin.specs.Classes.{row_of};
-ghost use Rattle.cw_plugin.specs.Tasks.{IsFaultless, AreTaskConfigs, AreApart, HaveAllParts, class_in, configs_of_class, task_config, task_configs, task_pair, task_value};
+ghost use Rattle.cw_plugin.specs.Tasks.{IsFaultless, AreTaskConfigs, AreApart, HaveAllParts, class_in};
+ghost use Rattle.cw_plugin.specs.Tasks.{configs_of_class, task_config, task_configs, task_pair, task_value};
 
 use crate::class::{Class, TaskField, class_of, row_of};
 use crate::shares::shares;

@@ -3,7 +3,8 @@ ghost use Rattle.std.specs.Prelude.{◌≡◌, [], IfOk, if◌then◌else◌};
 ghost use Rattle.cw_json.specs.Pairs.{value_in};
 ghost use Rattle.cw_plugin.specs.Classes.{row_of, key_of};
 ghost use Rattle.cw_plugin.specs.Checks.{is_name};
-ghost use Rattle.cw_plugin.specs.Parts.{part_of, parts_behind, parts_unless_repeated, with_parts, pieces, parts_of, with_value, with_fields, task_batch, task_of_class, task_of};
+ghost use Rattle.cw_plugin.specs.Parts.{part_of, parts_behind, parts_unless_repeated, with_parts, pieces, parts_of};
+ghost use Rattle.cw_plugin.specs.Parts.{with_value, with_fields, task_batch, task_of_class, task_of};
 
 use crate::class::{Class, Field, row_of, task_class_of};
 use crate::lists::{elements, has_repeat};

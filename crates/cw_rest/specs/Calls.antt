@@ -2,7 +2,9 @@
 -- view of the configs.
 use Rattle.std.specs.Prelude.{◌||◌, not, Bool, true, false}
 use Rattle.cw_route.specs.declared.call.Call.{Call}
-use Rattle.cw_route.specs.declared.call.Call.TheVariants.{Refused, Connectors, Create, Info, Delete, Config, PutConfig, Status, Tasks, TaskStatus, Pause, Resume, Stop, Restart, RestartTask, Offsets, Alter, Reset, Plugins}
+use Rattle.cw_route.specs.declared.call.Call.TheVariants.{Refused, Connectors, Create, Info, Delete, Config, PutConfig}
+use Rattle.cw_route.specs.declared.call.Call.TheVariants.{Status, Tasks, TaskStatus, Pause, Resume, Stop, Restart}
+use Rattle.cw_route.specs.declared.call.Call.TheVariants.{RestartTask, Offsets, Alter, Reset, Plugins}
 
 -- what a call does besides answering
 pub data Deed : Type 0 where

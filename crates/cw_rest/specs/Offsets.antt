@@ -1,7 +1,8 @@
 -- Which offsets a connector has, and which ones a call alters or resets (KIP-875): those of feeds and sequences for a
 -- source, those of topics for a sink. Positions below 2^48, at most 1,000 of them in a call, and that none is named
 -- twice, are this project's own.
-use Rattle.std.specs.Prelude.{ℕ, ◌^◌, ◌==◌, ◌&&◌, Bool, true, false, not, List, [], ◌∷◌, length, map, nat_le, nat_lt, Option, Some, None, is_some, bytes_eq, option_map, option_and_then, codes, if◌then◌else◌}
+use Rattle.std.specs.Prelude.{ℕ, ◌^◌, ◌==◌, ◌&&◌, Bool, true, false, not, List, [], ◌∷◌, length, map, nat_le, nat_lt}
+use Rattle.std.specs.Prelude.{Option, Some, None, is_some, bytes_eq, option_map, option_and_then, codes, if◌then◌else◌}
 use Rattle.std.specs.Option.{option_map_or}
 use Rattle.std.specs.List.{filter, filter_map, flat_map, fold, list_any}
 use Rattle.std.specs.declared.cmp.Ordering.{Ordering}

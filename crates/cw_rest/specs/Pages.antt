@@ -1,6 +1,7 @@
 -- What the calls that succeed answer: connectors, their configs, tasks, states and offsets as JSON, in the forms of
 -- Kafka Connect's REST API (offsets: KIP-875). Members stand in the order of their keys.
-use Rattle.std.specs.Prelude.{ℕ, ◌++◌, Bool, true, false, List, [], ◌∷◌, map, Option, Some, None, unwrap_or, option_map, codes, decimal, if◌then◌else◌}
+use Rattle.std.specs.Prelude.{ℕ, ◌++◌, Bool, true, false, List, [], ◌∷◌, map, Option, Some, None, unwrap_or, option_map}
+use Rattle.std.specs.Prelude.{codes, decimal, if◌then◌else◌}
 use Rattle.std.specs.Option.{option_map_or}
 use Rattle.std.specs.List.{filter_map, range_with_len}
 use Rattle.serde_json.specs.Data.{Data, Members, no_members, member, array, object, number, unsigned, string}

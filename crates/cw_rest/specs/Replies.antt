@@ -1,6 +1,7 @@
 -- What each call of Connect's REST API is answered: the first refusal that holds, in the order in which they stand
 -- here, and else the success.
-use Rattle.std.specs.Prelude.{ℕ, ◌==◌, Bool, true, false, not, List, [], ◌∷◌, Option, Some, None, is_some, is_none, Result, Ok, Err, option_and_then, unwrap_or, codes, if◌then◌else◌}
+use Rattle.std.specs.Prelude.{ℕ, ◌==◌, Bool, true, false, not, List, [], ◌∷◌, Option, Some, None, is_some, is_none}
+use Rattle.std.specs.Prelude.{Result, Ok, Err, option_and_then, unwrap_or, codes, if◌then◌else◌}
 use Rattle.std.specs.Option.{option_map_or}
 use Rattle.cw_types.specs.declared.ids.Epoch.{Epoch}
 use Rattle.cw_types.specs.declared.ids.Item.TheVariants.{Connector, Task}
@@ -14,7 +15,9 @@ use Rattle.cw_plugin.specs.declared.class.Class.{Class}
 use Rattle.cw_plugin.specs.declared.fault.PluginFault.{PluginFault}
 use Rattle.cw_plugin.specs.Checks.{checked, is_name, is_among}
 use Rattle.cw_route.specs.declared.call.Call.{Call}
-use Rattle.cw_route.specs.declared.call.Call.TheVariants.{Refused, Connectors, Create, Info, Delete, Config, PutConfig, Status, Tasks, TaskStatus, Pause, Resume, Stop, Restart, RestartTask, Offsets, Alter, Reset, Plugins}
+use Rattle.cw_route.specs.declared.call.Call.TheVariants.{Refused, Connectors, Create, Info, Delete, Config, PutConfig}
+use Rattle.cw_route.specs.declared.call.Call.TheVariants.{Status, Tasks, TaskStatus, Pause, Resume, Stop, Restart}
+use Rattle.cw_route.specs.declared.call.Call.TheVariants.{RestartTask, Offsets, Alter, Reset, Plugins}
 use Rattle.cw_status.specs.Statuses.{latest}
 use Rattle.cw_txn.specs.declared.entry.Entry.{Entry}
 use Rattle.cw_txn.specs.declared.entry.SetOffset.{SetOffset}
@@ -22,10 +25,12 @@ use Rattle.cw_txn.specs.Legal.{epoch_of}
 use Rattle.cw_route.specs.declared.reply.Reply.{Reply}
 use Rattle.cw_rest.specs.Seen.{Seen, KeyedValues, behind_write, is_connector, is_task}
 use Rattle.cw_rest.specs.Operations.{config_values, target_values, stop_values, delete_values, offset_entries, removals}
-use Rattle.cw_rest.specs.Messages.{replied, empty_reply, not_called, bad_body, bad_name, rebalancing, no_connector, no_status, no_task, already_there, not_stopped, bad_offset, bad_config}
+use Rattle.cw_rest.specs.Messages.{replied, empty_reply, not_called, bad_body, bad_name, rebalancing, no_connector}
+use Rattle.cw_rest.specs.Messages.{no_status, no_task, already_there, not_stopped, bad_offset, bad_config}
 use Rattle.cw_rest.specs.Bodies.{Asked, asked_in, config_in}
 use Rattle.cw_rest.specs.Offsets.{Alteration, alterations_in, sets_by}
-use Rattle.cw_rest.specs.Pages.{config_seen, is_source, info, names, task_infos, task_status, connector_status, parts_seen, offset_infos, message, plugins, properties}
+use Rattle.cw_rest.specs.Pages.{config_seen, is_source, info, names, task_infos, task_status, connector_status}
+use Rattle.cw_rest.specs.Pages.{parts_seen, offset_infos, message, plugins, properties}
 
 -- ---- one refusal behind the other
 

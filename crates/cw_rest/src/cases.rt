@@ -7,9 +7,12 @@ ghost use Rattle.cw_keys.specs.declared.config_value.ConfigValue.TheVariants as 
 ghost use Rattle.cw_plugin.specs.declared.fault.PluginFault.TheVariants.{NoFeed};
 ghost use Rattle.cw_route.specs.declared.call.Call.TheVariants.{Info, Status, Stop, RestartTask, Offsets, Reset};
 ghost use Rattle.cw_txn.specs.declared.entry.Entry.TheVariants.{Bump, Set};
-ghost use Rattle.cw_rest.specs.Messages.{rebalancing, already_there, bad_config, no_connector, no_task, not_stopped, bad_offset};
+ghost use Rattle.cw_rest.specs.Messages.{rebalancing, already_there, bad_config, no_connector, no_task, not_stopped};
+ghost use Rattle.cw_rest.specs.Messages.{bad_offset};
 ghost use Rattle.cw_rest.specs.Replies.{reply_to, create_reply, alter_reply, sets_of, values_of, entries_of};
-ghost use Rattle.cw_rest.specs.Cases.{name_a, task_a, part_a, asked_a, nothing_yet, at_work, at_rest, info_text, exists_text, absent_text, status_text, offsets_text, altering, removing, altering_a_topic};
+ghost use Rattle.cw_rest.specs.Cases.{name_a, task_a, part_a, asked_a, nothing_yet, at_work, at_rest, info_text};
+ghost use Rattle.cw_rest.specs.Cases.{exists_text, absent_text, status_text, offsets_text, altering, removing};
+ghost use Rattle.cw_rest.specs.Cases.{altering_a_topic};
 
 /// A new connector is told with its config, and with no task yet.
 pub fn new_connector_is_told()

@@ -1,7 +1,8 @@
 -- Which call of Connect's REST API a request is: the target is a path and a query behind the first `?`; the path
 -- decides the page, the method
 -- what is asked of it, and the page's parameters name the connector or the task.
-use Rattle.std.specs.Prelude.{◌+◌, ℕ, ◌==◌, Bool, true, false, List, [], length, take, drop, Option, Some, None, Result, Ok, Err, position, if◌then◌else◌}
+use Rattle.std.specs.Prelude.{◌+◌, ℕ, ◌==◌, Bool, true, false, List, [], length, take, drop, Option, Some, None, Result}
+use Rattle.std.specs.Prelude.{Ok, Err, position, if◌then◌else◌}
 use Rattle.std.specs.List.{list_all}
 use Rattle.matchit.specs.Router.{RouteOf}
 use Rattle.matchit.specs.Seek.{first}
@@ -14,7 +15,9 @@ use Rattle.cw_route.specs.declared.page.Page.{Page}
 use Rattle.cw_route.specs.declared.operation.Operation.{Operation}
 use Rattle.cw_route.specs.declared.operation.Operation.TheVariants as op
 use Rattle.cw_route.specs.declared.call.Call.{Call}
-use Rattle.cw_route.specs.declared.call.Call.TheVariants.{Refused, Connectors, Create, Info, Delete, Config, PutConfig, Status, Tasks, TaskStatus, Pause, Resume, Stop, Restart, RestartTask, Offsets, Alter, Reset, Plugins}
+use Rattle.cw_route.specs.declared.call.Call.TheVariants.{Refused, Connectors, Create, Info, Delete, Config, PutConfig}
+use Rattle.cw_route.specs.declared.call.Call.TheVariants.{Status, Tasks, TaskStatus, Pause, Resume, Stop, Restart}
+use Rattle.cw_route.specs.declared.call.Call.TheVariants.{RestartTask, Offsets, Alter, Reset, Plugins}
 use Rattle.cw_route.specs.declared.call.RouteFault.{RouteFault}
 use Rattle.cw_route.specs.declared.call.RouteFault.TheVariants.{NotFound, NotAllowed, BadQuery}
 

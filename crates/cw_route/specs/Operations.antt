@@ -1,7 +1,8 @@
 -- Which methods each path of Connect's REST API has (KIP-875 added those of offsets and stop), and what they ask for.
 use Rattle.std.specs.Prelude.{ℕ, List, Option, Some, None, codes, bytes_eq, if◌then◌else◌}
 use Rattle.cw_route.specs.declared.page.Page.{Page}
-use Rattle.cw_route.specs.declared.page.Page.TheVariants.{Connectors, Plugins, Connector, Config, Offsets, Pause, Resume, Stop, Restart, Status, Tasks, TaskRestart, TaskStatus}
+use Rattle.cw_route.specs.declared.page.Page.TheVariants.{Connectors, Plugins, Connector, Config, Offsets, Pause}
+use Rattle.cw_route.specs.declared.page.Page.TheVariants.{Resume, Stop, Restart, Status, Tasks, TaskRestart, TaskStatus}
 use Rattle.cw_route.specs.declared.operation.Operation.{Operation}
 use Rattle.cw_route.specs.declared.operation.Operation.TheVariants as op
 

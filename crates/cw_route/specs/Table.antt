@@ -4,7 +4,8 @@ use Rattle.std.specs.Prelude.{ℕ, List, [], ◌∷◌, ◌++◌, codes}
 use Rattle.matchit.specs.Rows.{RowsOf, param_token}
 use Rattle.matchit.specs.Router.{RouteOf}
 use Rattle.cw_route.specs.declared.page.Page.{Page}
-use Rattle.cw_route.specs.declared.page.Page.TheVariants.{Connectors, Plugins, Connector, Config, Offsets, Pause, Resume, Stop, Restart, Status, Tasks, TaskRestart, TaskStatus}
+use Rattle.cw_route.specs.declared.page.Page.TheVariants.{Connectors, Plugins, Connector, Config, Offsets, Pause}
+use Rattle.cw_route.specs.declared.page.Page.TheVariants.{Resume, Stop, Restart, Status, Tasks, TaskRestart, TaskStatus}
 
 -- the table, in the order in which a router keeps it
 abbrev pub pages : List Page

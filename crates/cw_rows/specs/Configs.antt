@@ -1,6 +1,7 @@
 -- The records of the config log as they are kept in memory. There are two states of them: one answers what is asked,
 -- and the other takes the next records first, so that putting them in wants no memory.
-use Rattle.std.specs.Prelude.{◌≡◌, ◌≢◌, ℕ, ◌+◌, ◌<◌, ◌≤◌, Bool, true, false, List, [], ◌∷◌, length, map, take, drop, Option, Result, Ok, Err, unwrap_or, ◌==◌, if◌then◌else◌}
+use Rattle.std.specs.Prelude.{◌≡◌, ◌≢◌, ℕ, ◌+◌, ◌<◌, ◌≤◌, Bool, true, false, List, [], ◌∷◌, length, map, take, drop}
+use Rattle.std.specs.Prelude.{Option, Result, Ok, Err, unwrap_or, ◌==◌, if◌then◌else◌}
 use Rattle.std.specs.List.{enumerate_from, list_all, AllByRecursion}
 use Rattle.cw_types.specs.declared.logs.LogName.TheVariants.{Config}
 use Rattle.cw_bytes.specs.declared.applied.Applied.{Applied}

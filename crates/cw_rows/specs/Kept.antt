@@ -1,5 +1,6 @@
 -- The cluster as it is kept in memory: the model's state, in the parts in which the code has it.
-use Rattle.std.specs.Prelude.{◌≡◌, ◌≢◌, ℕ, ◌<◌, List, [], length, take, slice_index_or, Option, Some, None, Result, Ok, Err, if◌then◌else◌, ◌==◌, not, nat_lt, unwrap_or}
+use Rattle.std.specs.Prelude.{◌≡◌, ◌≢◌, ℕ, ◌<◌, List, [], length, take, slice_index_or, Option, Some, None, Result, Ok}
+use Rattle.std.specs.Prelude.{Err, if◌then◌else◌, ◌==◌, not, nat_lt, unwrap_or}
 use Rattle.cw_types.specs.declared.logs.DiskName.{DiskName}
 use Rattle.cw_bytes.specs.declared.applied.Applied.{Applied}
 use Rattle.cw_txn.specs.declared.entry.Entry.{Entry}
@@ -11,7 +12,8 @@ use Rattle.cw_config.specs.View.{generation_of, task_count_of, is_pending}
 use Rattle.cw_offset.specs.Calls.{Calls}
 use Rattle.cw_group.specs.Circle.{CircleState}
 use Rattle.cw_model.specs.declared.fault.WorldFault.{WorldFault}
-use Rattle.cw_model.specs.declared.fault.WorldFault.TheVariants.{Closed, Dead, Gone, Memory, StaleGeneration, PendingFence}
+use Rattle.cw_model.specs.declared.fault.WorldFault.TheVariants.{Closed, Dead, Gone, Memory, StaleGeneration}
+use Rattle.cw_model.specs.declared.fault.WorldFault.TheVariants.{PendingFence}
 use Rattle.cw_model.specs.declared.journal.JournalEntry.{JournalEntry}
 use Rattle.cw_status.specs.declared.record.StatusRecord.{StatusRecord}
 use Rattle.cw_model.specs.State.{Setting, Paired, Cluster}

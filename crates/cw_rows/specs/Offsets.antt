@@ -1,6 +1,7 @@
 -- The offset log as it is kept in memory: its next offset, and what is told of its frames, so that the first
 -- transaction to mark is found without a walk of the log (KIP-618, KIP-98).
-use Rattle.std.specs.Prelude.{◌≡◌, ℕ, ◌+◌, ◌≤◌, ◌^◌, max, Bool, true, false, List, [], ◌∷◌, ◌++◌, drop, map, Option, Some, None}
+use Rattle.std.specs.Prelude.{◌≡◌, ℕ, ◌+◌, ◌≤◌, ◌^◌, max, Bool, true, false, List, [], ◌∷◌, ◌++◌, drop, map, Option}
+use Rattle.std.specs.Prelude.{Some, None}
 use Rattle.std.specs.List.{filter, flat_map, fold}
 use Rattle.cw_bytes.specs.declared.applied.Applied.{Applied}
 use Rattle.cw_bytes.specs.Frames.{next_after}

@@ -1,6 +1,7 @@
 -- What a task does in its transaction, as the code comes to it: first the tests, in the order of the event, then one
 -- entry more in a log (KIP-618).
-use Rattle.std.specs.Prelude.{◌≡◌, ℕ, ◌≤◌, ◌^◌, ◌==◌, length, None, IsSome, Result, Ok, Err, option_and_then, if◌then◌else◌}
+use Rattle.std.specs.Prelude.{◌≡◌, ℕ, ◌≤◌, ◌^◌, ◌==◌, length, None, IsSome, Result, Ok, Err, option_and_then}
+use Rattle.std.specs.Prelude.{if◌then◌else◌}
 use Rattle.cw_types.specs.declared.logs.LogName.TheVariants.{Batches}
 use Rattle.cw_io.specs.Shelf.{Files}
 use Rattle.cw_data.specs.Body.{entry_bytes}

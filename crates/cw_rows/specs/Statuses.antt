@@ -1,6 +1,7 @@
 -- The statuses that were reported (Connect's status topic): the records since the cluster was opened, and the one that
 -- a worker reports next.
-use Rattle.std.specs.Prelude.{◌≡◌, ℕ, ◌-◌, ◌^◌, ◌&&◌, false, List, [], ◌∷◌, length, map, min, Option, Some, None, option_map, if◌then◌else◌}
+use Rattle.std.specs.Prelude.{◌≡◌, ℕ, ◌-◌, ◌^◌, ◌&&◌, false, List, [], ◌∷◌, length, map, min, Option, Some, None}
+use Rattle.std.specs.Prelude.{option_map, if◌then◌else◌}
 use Rattle.cw_types.specs.declared.ids.Item.{Item}
 use Rattle.cw_types.specs.declared.logs.LogName.TheVariants.{Status}
 use Rattle.cw_bytes.specs.Frames.{next_behind}

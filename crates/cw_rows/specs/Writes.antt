@@ -7,7 +7,8 @@ use Rattle.cw_model.specs.declared.fault.WorldFault.{WorldFault}
 use Rattle.cw_model.specs.declared.fault.WorldFault.TheVariants.{Full, Memory}
 use Rattle.cw_model.specs.State.{Cluster, Paired}
 use Rattle.cw_model.specs.Answers.{Answer, refused}
-use Rattle.cw_model.specs.Bodies.{config_length, offsets_length, status_length, txn_length, data_length, frame_of, has_room}
+use Rattle.cw_model.specs.Bodies.{config_length, offsets_length, status_length, txn_length, data_length, frame_of}
+use Rattle.cw_model.specs.Bodies.{has_room}
 use Rattle.cw_model.specs.Reopening.{stored_of}
 use Rattle.cw_model.specs.StandsFor.{Stored}
 use Rattle.cw_rows.specs.Kept.{Kept, HasSameLogs}

@@ -1,5 +1,6 @@
 //! The cluster.
-ghost use Rattle.std.specs.Prelude.{◌≡◌, ◌<◌, [], ℕ, length, Ok, Err, true, false, slice_index_or, take, MatchResult, OnErr};
+ghost use Rattle.std.specs.Prelude.{◌≡◌, ◌<◌, [], ℕ, length, Ok, Err, true, false, slice_index_or, take, MatchResult};
+ghost use Rattle.std.specs.Prelude.{OnErr};
 ghost use Rattle.cw_rows.specs.Kept.{worker_test, instance_test, open_test};
 ghost use Rattle.std.specs.Prelude.{◌↔◌, IsTrue, IfOk};
 ghost use Rattle.std.specs.List.{IsDistinct};

@@ -1,5 +1,6 @@
 //! The leader writes records to the config log: configs, task sets, target states (Connect's config topic).
-ghost use Rattle.std.specs.Prelude.{◌≡◌, ◌≢◌, ◌<◌, ◌≤◌, ◌+◌, ◌^◌, ◌++◌, ◌∷◌, [], ℕ, length, map, nat_le, true, false, Ok, Err, None, Some, IfOk, OnOk, MatchResult, if◌then◌else◌};
+ghost use Rattle.std.specs.Prelude.{◌≡◌, ◌≢◌, ◌<◌, ◌≤◌, ◌+◌, ◌^◌, ◌++◌, ◌∷◌, [], ℕ, length, map, nat_le, true, false};
+ghost use Rattle.std.specs.Prelude.{Ok, Err, None, Some, IfOk, OnOk, MatchResult, if◌then◌else◌};
 ghost use Rattle.std.specs.List.{AllByRecursion};
 ghost use Rattle.cw_config.specs.Acceptance.{end_of};
 ghost use Rattle.cw_config.specs.Compaction.{AreAccepted};

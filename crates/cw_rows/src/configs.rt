@@ -3,7 +3,8 @@
 //! What a state says stays askable while the memory of the next records is taken, and putting them in takes none. So
 //! there are two states: the one that is asked, and a second one, which takes the next records first. Once they stand
 //! in the log, the two change places, and the one that was asked so far reads them when the next ones come.
-ghost use Rattle.std.specs.Prelude.{◌≡◌, ◌++◌, ◌+◌, ◌≤◌, [], ℕ, length, vec_len, vec_capacity, IfOk, IfErr, OnOk, OnErr};
+ghost use Rattle.std.specs.Prelude.{◌≡◌, ◌++◌, ◌+◌, ◌≤◌, [], ℕ, length, vec_len, vec_capacity, IfOk, IfErr, OnOk};
+ghost use Rattle.std.specs.Prelude.{OnErr};
 ghost use Rattle.cw_config.specs.Compaction.{AreAccepted};
 ghost use Rattle.cw_rows.specs.Configs.{IsBehind, Reads, ReadsAlone};
 ghost use Rattle.cw_rows.specs.declared.configs.Twin.TheVariants as second;

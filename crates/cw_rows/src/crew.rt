@@ -1,5 +1,7 @@
 //! The workers, and what they run.
-ghost use Rattle.std.specs.Prelude.{◌≡◌, ◌==◌, ◌&&◌, ◌≤◌, ◌↔◌, IsTrue, if◌then◌else◌, not, ◌<◌, ◌++◌, ◌∷◌, [], ℕ, length, drop, map, false, true, IfOk, OnOk, OnErr, slice_index_or, slice_set, Some, vec_len, vec_capacity};
+ghost use Rattle.std.specs.Prelude.{◌≡◌, ◌==◌, ◌&&◌, ◌≤◌, ◌↔◌, IsTrue, if◌then◌else◌, not, ◌<◌, ◌++◌, ◌∷◌, [], ℕ};
+ghost use Rattle.std.specs.Prelude.{length, drop, map, false, true, IfOk, OnOk, OnErr, slice_index_or, slice_set, Some};
+ghost use Rattle.std.specs.Prelude.{vec_len, vec_capacity};
 ghost use Rattle.std.specs.List.{filter, fold, AllByRecursion, IsDistinct};
 ghost use Rattle.cw_assign.specs.Items.{same_item, in_order};
 ghost use Rattle.cw_config.specs.Compaction.{AreAccepted};
@@ -45,7 +47,8 @@ impl Model for Crew {
 }
 
 impl Crew {
-    ghost use Rattle.cw_rows.specs.Crew.{CrewState, with_row, with_instance, with_ends, with_read, ends_below, runs_at, takes_part};
+    ghost use Rattle.cw_rows.specs.Crew.{CrewState, with_row, with_instance, with_ends, with_read, ends_below, runs_at};
+    ghost use Rattle.cw_rows.specs.Crew.{takes_part};
     ghost use Rattle.cw_model.specs.EventsItems.{runs};
 
     /// With no worker.

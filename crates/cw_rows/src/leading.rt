@@ -1,6 +1,7 @@
 //! What the leader writes to the transaction list: the claim of its lead epoch, the bumps that fence the producers of
 //! older tasks (KIP-618), and offsets that a user sets or resets (KIP-875).
-ghost use Rattle.std.specs.Prelude.{◌≡◌, ◌<◌, ◌≤◌, ◌+◌, ◌++◌, ◌∷◌, [], length, Ok, IfOk, OnOk, MatchResult, true, unwrap_or, Some};
+ghost use Rattle.std.specs.Prelude.{◌≡◌, ◌<◌, ◌≤◌, ◌+◌, ◌++◌, ◌∷◌, [], length, Ok, IfOk, OnOk, MatchResult, true};
+ghost use Rattle.std.specs.Prelude.{unwrap_or, Some};
 ghost use Rattle.cw_types.specs.declared.ids.PartKey.{PartKey};
 ghost use Rattle.cw_types.specs.declared.ids.Tid.TheVariants as tid;
 ghost use Rattle.cw_types.specs.declared.logs.LogName.TheVariants as log;

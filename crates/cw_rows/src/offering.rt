@@ -1,5 +1,6 @@
 //! A task writes the offset behind its records to the offset log, in the same transaction (KIP-618).
-ghost use Rattle.std.specs.Prelude.{◌≡◌, ◌≢◌, ◌<◌, ◌^◌, ◌∷◌, [], ℕ, length, None, Some, Ok, Err, true, false, IfOk, IfErr, OnOk, MatchResult};
+ghost use Rattle.std.specs.Prelude.{◌≡◌, ◌≢◌, ◌<◌, ◌^◌, ◌∷◌, [], ℕ, length, None, Some, Ok, Err, true, false, IfOk};
+ghost use Rattle.std.specs.Prelude.{IfErr, OnOk, MatchResult};
 ghost use Rattle.cw_types.specs.declared.logs.LogName.TheVariants as log;
 ghost use Rattle.cw_bytes.specs.Spelling.{IsRecord};
 ghost use Rattle.cw_keys.specs.Parts.{is_raw};

@@ -17,8 +17,8 @@ use std::alloc::{AllocError, Global};
 use std::collections::LinkedList;
 use std::marker::Model;
 
-/// A frame of the offset log: its entry, the list of a copy of it, which is hung to the log's frames, its bytes, and the
-/// calls that tell of it. Clauses see its entry.
+/// A frame of the offset log: its entry, the list of a copy of it, which is hung to the log's frames, its bytes, and
+/// the calls that tell of it. Clauses see its entry.
 #[derive(Drop)]
 pub struct OffsetFrame {
     entry: OffsetEntry,

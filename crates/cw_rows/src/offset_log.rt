@@ -1,5 +1,6 @@
 //! The offset log as it is kept in memory: what is told of its frames, and its next offset.
-ghost use Rattle.std.specs.Prelude.{◌≡◌, ◌<◌, ◌+◌, ◌^◌, ◌++◌, ◌∷◌, [], ℕ, max, length, Some, false, IfOk, OnOk, OnErr, option_copied};
+ghost use Rattle.std.specs.Prelude.{◌≡◌, ◌<◌, ◌+◌, ◌^◌, ◌++◌, ◌∷◌, [], ℕ, max, length, Some, false, IfOk, OnOk, OnErr};
+ghost use Rattle.std.specs.Prelude.{option_copied};
 ghost use Rattle.std.specs.List.{AllByRecursion, flat_map};
 ghost use Rattle.cw_types.specs.declared.ids.Tag.{Tag as TagValue};
 ghost use Rattle.cw_bytes.specs.Frames.{joined, next_after};

@@ -1,5 +1,6 @@
 //! A task writes the records of a cut to the data log (KIP-618).
-ghost use Rattle.std.specs.Prelude.{◌≡◌, ◌≢◌, ◌<◌, length, None, Ok, Err, true, IfOk, IfErr, OnOk, MatchResult, Contains};
+ghost use Rattle.std.specs.Prelude.{◌≡◌, ◌≢◌, ◌<◌, length, None, Ok, Err, true, IfOk, IfErr, OnOk, MatchResult};
+ghost use Rattle.std.specs.Prelude.{Contains};
 ghost use Rattle.cw_data.specs.Body.{IsShort, entry_bytes};
 ghost use Rattle.cw_data.specs.declared.entry.DataEntry.TheVariants.{Batch as InBatch};
 ghost use Rattle.cw_model.specs.Bodies.{frame_of, has_room};

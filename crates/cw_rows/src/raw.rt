@@ -1,5 +1,6 @@
 //! What a script's producers write to the transaction list.
-ghost use Rattle.std.specs.Prelude.{◌≡◌, ◌≢◌, ◌≤◌, ◌++◌, ◌∷◌, [], ℕ, List, length, map, Ok, Err, IfOk, OnOk, MatchResult, true};
+ghost use Rattle.std.specs.Prelude.{◌≡◌, ◌≢◌, ◌≤◌, ◌++◌, ◌∷◌, [], ℕ, List, length, map, Ok, Err, IfOk, OnOk};
+ghost use Rattle.std.specs.Prelude.{MatchResult, true};
 ghost use Rattle.std.specs.List.{find};
 ghost use Rattle.cw_types.specs.declared.ids.PartKey.{PartKey as PartValue};
 ghost use Rattle.cw_types.specs.declared.ids.Span.{Span as SpanValue};

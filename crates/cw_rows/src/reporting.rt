@@ -1,11 +1,13 @@
 //! A worker reports the state of an item that it runs (Connect's status topic).
-ghost use Rattle.std.specs.Prelude.{◌≡◌, ◌≢◌, ◌<◌, ◌++◌, ◌∷◌, [], ◌^◌, length, true, None, Ok, Err, option_map, IfOk, IfErr, OnOk, MatchResult};
+ghost use Rattle.std.specs.Prelude.{◌≡◌, ◌≢◌, ◌<◌, ◌++◌, ◌∷◌, [], ◌^◌, length, true, None, Ok, Err, option_map, IfOk};
+ghost use Rattle.std.specs.Prelude.{IfErr, OnOk, MatchResult};
 ghost use Rattle.cw_types.specs.declared.logs.LogName.TheVariants as log;
 ghost use Rattle.cw_keys.specs.Statuses.{status_key, status_text, IsItem};
 ghost use Rattle.cw_model.specs.declared.fault.WorldFault.{WorldFault as FaultValue};
 ghost use Rattle.cw_model.specs.declared.fault.WorldFault.TheVariants as fault;
 ghost use Rattle.cw_model.specs.Bodies.{status_applied, status_body, frame_of, has_room};
-ghost use Rattle.cw_model.specs.EventsReports.{put_status, MayReport, state_of, status_of, instance_at, aimed_state, trace_text};
+ghost use Rattle.cw_model.specs.EventsReports.{put_status, MayReport, state_of, status_of, instance_at, aimed_state};
+ghost use Rattle.cw_model.specs.EventsReports.{trace_text};
 ghost use Rattle.cw_model.specs.Lookups.{connector_of};
 ghost use Rattle.cw_model.specs.Updates.{is_offset};
 ghost use Rattle.cw_rows.specs.Kept.{worker_test};

@@ -1,5 +1,6 @@
 //! What a source's task writes to the transaction list.
-ghost use Rattle.std.specs.Prelude.{◌≡◌, ◌<◌, ◌++◌, ◌∷◌, [], ℕ, length, slice_index_or, Ok, IfOk, OnOk, MatchResult, true};
+ghost use Rattle.std.specs.Prelude.{◌≡◌, ◌<◌, ◌++◌, ◌∷◌, [], ℕ, length, slice_index_or, Ok, IfOk, OnOk, MatchResult};
+ghost use Rattle.std.specs.Prelude.{true};
 ghost use Rattle.cw_types.specs.declared.ids.PartKey.{PartKey as PartValue};
 ghost use Rattle.cw_types.specs.declared.ids.PartKey.TheVariants as part;
 ghost use Rattle.cw_types.specs.declared.ids.Span.{Span as SpanValue};

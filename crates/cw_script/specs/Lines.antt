@@ -1,5 +1,6 @@
 -- What a line of a script says, and the first fault of a line that says nothing.
-use Rattle.std.specs.Prelude.{ℕ, ◌==◌, ◌^◌, ◌-◌, Bool, true, false, List, [], ◌∷◌, length, codes, nat_lt, Option, Some, None, Result, Ok, Err, ok_or, bytes_eq, if◌then◌else◌}
+use Rattle.std.specs.Prelude.{ℕ, ◌==◌, ◌^◌, ◌-◌, Bool, true, false, List, [], ◌∷◌, length, codes, nat_lt, Option, Some}
+use Rattle.std.specs.Prelude.{None, Result, Ok, Err, ok_or, bytes_eq, if◌then◌else◌}
 use Rattle.std.specs.List.{find}
 use Rattle.cw_types.specs.Decimal.{number_of}
 use Rattle.cw_types.specs.Name.{name_of}
@@ -10,7 +11,8 @@ use Rattle.cw_script.specs.declared.fault.LineKind.{LineKind}
 use Rattle.cw_script.specs.declared.fault.LineKind.TheVariants.{NoWord, Count, Number, BadName}
 use Rattle.cw_script.specs.Words.{words, joined}
 use Rattle.cw_script.specs.Pairs.{is_pair_count, pairs_of}
-use Rattle.cw_script.specs.Table.{Place, number32, number64, limit, name, log, text, End, nothing, pairs, body, ValueOf, Maker, Row, table}
+use Rattle.cw_script.specs.Table.{Place, number32, number64, limit, name, log, text, End, nothing, pairs, body, ValueOf}
+use Rattle.cw_script.specs.Table.{Maker, Row, table}
 
 -- what is made of a value; the first fault stays
 abbrev pub after : {A B : Type 0} → Result A LineKind → (A → Result B LineKind) → Result B LineKind

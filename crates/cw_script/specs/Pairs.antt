@@ -1,5 +1,6 @@
 -- The parts that a commit names, each with its new end. A commit names 1 to 16 parts, and none twice.
-use Rattle.std.specs.Prelude.{ℕ, ◌==◌, ◌%◌, ◌-◌, ◌≤◌, ◌^◌, Bool, false, List, [], ◌∷◌, ◌++◌, length, map, nat_eq, nat_lt, Option, Some, None, if◌then◌else◌}
+use Rattle.std.specs.Prelude.{ℕ, ◌==◌, ◌%◌, ◌-◌, ◌≤◌, ◌^◌, Bool, false, List, [], ◌∷◌, ◌++◌, length, map, nat_eq}
+use Rattle.std.specs.Prelude.{nat_lt, Option, Some, None, if◌then◌else◌}
 use Rattle.std.specs.Option.{option_and_then}
 use Rattle.std.specs.List.{list_any, IsDistinct}
 use Rattle.cw_types.specs.Decimal.{number_of}

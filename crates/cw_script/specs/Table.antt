@@ -3,7 +3,9 @@ use Rattle.std.specs.Prelude.{ℕ, List, [], ◌∷◌, codes}
 use Rattle.cw_types.specs.declared.logs.LogName.{LogName}
 use Rattle.cw_script.specs.declared.directive.PartEnd.{PartEnd}
 use Rattle.cw_script.specs.declared.directive.Directive.{Directive}
-use Rattle.cw_script.specs.declared.directive.Directive.TheVariants.{Init, Commit, Spawn, Kill, Deaf, Hear, Expire, Clock, Tick, Step, Settle, Rest, Held, Member, Take, Compact}
+use Rattle.cw_script.specs.declared.directive.Directive.TheVariants.{Init, Commit, Spawn, Kill, Deaf, Hear, Expire}
+use Rattle.cw_script.specs.declared.directive.Directive.TheVariants.{Clock, Tick, Step, Settle, Rest, Held, Member}
+use Rattle.cw_script.specs.declared.directive.Directive.TheVariants.{Take, Compact}
 
 -- what one word behind a directive's word may be
 pub data Place : Type 0 where

@@ -1,6 +1,7 @@
 -- What a step of a sink's task does to the world and to the outlet: where it polls, it puts what it gathers into its
 -- file, and then the world knows that (Kafka Connect's WorkerSinkTask hands out before it commits an offset).
-use Rattle.std.specs.Prelude.{◌≡◌, ◌≤◌, ℕ, Bool, true, false, List, Option, Some, None, is_some, Result, Ok, Err, if◌then◌else◌}
+use Rattle.std.specs.Prelude.{◌≡◌, ◌≤◌, ℕ, Bool, true, false, List, Option, Some, None, is_some, Result, Ok, Err}
+use Rattle.std.specs.Prelude.{if◌then◌else◌}
 use Rattle.cw_types.specs.Faults.{Rose}
 use Rattle.cw_io.specs.declared.outlet.Outlet as outlet
 use Rattle.cw_io.specs.Shelf.{Files}

@@ -1,5 +1,6 @@
 -- What the table keeps of the records, so that no look-up walks them. Internal: no public contract cites this.
-use Rattle.std.specs.Prelude.{◌≡◌, ℕ, ◌<◌, List, length, Contains, Option, None, IsSome, unwrap_or, slice_index_or, take}
+use Rattle.std.specs.Prelude.{◌≡◌, ℕ, ◌<◌, List, length, Contains, Option, None, IsSome, unwrap_or, slice_index_or}
+use Rattle.std.specs.Prelude.{take}
 use Rattle.std.specs.BTreeMap.{BTreeMap, get}
 use Rattle.std.specs.declared.cmp.Ordering.{Ordering}
 use Rattle.cw_types.specs.declared.ids.Item.{Item}

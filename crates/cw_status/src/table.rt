@@ -1,5 +1,6 @@
 //! The last status of each item, so that no look-up walks the records.
-ghost use Rattle.std.specs.Prelude.{◌≡◌, ◌++◌, ◌∷◌, [], OnOk, OnErr, IsOk, IsSome, Some, None, unwrap_or, option_copied, if◌then◌else◌};
+ghost use Rattle.std.specs.Prelude.{◌≡◌, ◌++◌, ◌∷◌, [], OnOk, OnErr, IsOk, IsSome, Some, None, unwrap_or};
+ghost use Rattle.std.specs.Prelude.{option_copied, if◌then◌else◌};
 ghost use Rattle.std.specs.BTreeMap.{get};
 ghost use Rattle.cw_types.specs.declared.ids.Item.{Item};
 ghost use Rattle.cw_status.specs.Statuses.{is_item};

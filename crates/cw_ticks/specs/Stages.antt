@@ -1,7 +1,10 @@
 -- The rules of a worker's tick in four stages, as a turn is looked for.
 use Rattle.std.specs.Prelude.{◌≡◌, ℕ, List, [], ◌∷◌, ◌++◌, Option, Some, None, IsSome}
 use Rattle.cw_model.specs.State.{Cluster}
-use Rattle.cw_model.specs.TickRules.{Rule, rule, when, read_applies, reads, stop_applies, deaf_stop_applies, stops, join_applies, joins, close_applies, closes, plan_applies, plans, sync_applies, syncs, lead_applies, takes_lead, propose_applies, proposes, fence_applies, fences, mark_applies, marks_ended, start_applies, starts, report_applies, reports_state}
+use Rattle.cw_model.specs.TickRules.{Rule, rule, when, read_applies, reads, stop_applies, deaf_stop_applies, stops}
+use Rattle.cw_model.specs.TickRules.{join_applies, joins, close_applies, closes, plan_applies, plans, sync_applies}
+use Rattle.cw_model.specs.TickRules.{syncs, lead_applies, takes_lead, propose_applies, proposes, fence_applies, fences}
+use Rattle.cw_model.specs.TickRules.{mark_applies, marks_ended, start_applies, starts, report_applies, reports_state}
 use Rattle.cw_ticks.specs.declared.turn.Turn.{Turn}
 use Rattle.cw_ticks.specs.Turns.{IsOfRule}
 

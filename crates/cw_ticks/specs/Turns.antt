@@ -12,7 +12,9 @@ use Rattle.cw_model.specs.Lookups.{seen}
 use Rattle.cw_model.specs.EventsLeading.{fencing_of}
 use Rattle.cw_model.specs.EventsReports.{put_status}
 use Rattle.cw_model.specs.Proposals.{are_deferred}
-use Rattle.cw_model.specs.TickRules.{Rule, tells, number_at, read_applies, stop_applies, propose_applies, fence_applies, mark_applies, start_applies, report_applies, reads, stops, joins, closes, plans, syncs, takes_lead, proposes, fences, marks_ended, starts}
+use Rattle.cw_model.specs.TickRules.{Rule, tells, number_at, read_applies, stop_applies, propose_applies, fence_applies}
+use Rattle.cw_model.specs.TickRules.{mark_applies, start_applies, report_applies, reads, stops, joins, closes, plans}
+use Rattle.cw_model.specs.TickRules.{syncs, takes_lead, proposes, fences, marks_ended, starts}
 use Rattle.cw_model.specs.Tick.{rule_for}
 use Rattle.cw_ticks.specs.declared.turn.Turn.{Turn}
 use Rattle.cw_ticks.specs.declared.turn.Turn.TheVariants as turn

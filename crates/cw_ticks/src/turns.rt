@@ -6,7 +6,8 @@ ghost use Rattle.cw_model.specs.EventsReports.{state_of};
 ghost use Rattle.cw_ticks.specs.declared.turn.Turn.TheVariants as turn;
 ghost use Rattle.cw_model.specs.Tick.{first_rule};
 ghost use Rattle.cw_model.specs.TickRules.{read_applies, stop_applies};
-ghost use Rattle.cw_ticks.specs.Stages.{reading_rules, group_rules, leading_rules, running_rules, reporting_rules, group_on, leading_on, IsStage};
+ghost use Rattle.cw_ticks.specs.Stages.{reading_rules, group_rules, leading_rules, running_rules, reporting_rules};
+ghost use Rattle.cw_ticks.specs.Stages.{group_on, leading_on, IsStage};
 ghost use Rattle.cw_ticks.specs.Turns.{IsOfRule, IsTurn};
 
 use crate::fences::{fence_applies, has_producer_left};

@@ -2,7 +2,8 @@
 use Rattle.std.specs.Prelude.{ℕ, ◌<◌, ◌≤◌, ◌^◌, List, [], ◌∷◌, ◌++◌, length, Option, Some, None}
 use Rattle.std.specs.Bool.{⊤}
 use Rattle.std.specs.List.{flat_map, AllByRecursion}
-use Rattle.cw_bytes.specs.Spelling.{word, long, tid_bytes, tag_bytes, part_bytes, span_bytes, IsTid, IsTag, IsPart, IsSpan}
+use Rattle.cw_bytes.specs.Spelling.{word, long, tid_bytes, tag_bytes, part_bytes, span_bytes, IsTid, IsTag, IsPart}
+use Rattle.cw_bytes.specs.Spelling.{IsSpan}
 use Rattle.cw_bytes.specs.declared.fault.FieldFault.{FieldFault}
 use Rattle.cw_bytes.specs.declared.fault.FieldFault.TheVariants.{Short, BadKind, BadName, Memory as FieldMemory}
 use Rattle.cw_txn.specs.declared.body.BodyFault.{BodyFault}

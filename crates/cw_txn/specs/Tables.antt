@@ -1,5 +1,6 @@
 -- What the coordinator's tables keep of its list, so that no look-up walks it. Internal: no public contract cites this.
-use Rattle.std.specs.Prelude.{◌≡◌, ℕ, ◌+◌, Bool, false, List, length, Contains, [], ◌∷◌, ◌&&◌, is_some, IsSome, Some, unwrap_or, All, if◌then◌else◌, slice_index_or, take, ◌<◌, ◌^◌}
+use Rattle.std.specs.Prelude.{◌≡◌, ℕ, ◌+◌, Bool, false, List, length, Contains, [], ◌∷◌, ◌&&◌, is_some, IsSome, Some}
+use Rattle.std.specs.Prelude.{unwrap_or, All, if◌then◌else◌, slice_index_or, take, ◌<◌, ◌^◌}
 use Rattle.std.specs.Str.{bytes_eq}
 use Rattle.std.specs.List.{fold}
 use Rattle.std.specs.BTreeMap.{BTreeMap, get, is_at}

@@ -1,5 +1,6 @@
 -- What one walk over a list of entries finds. Internal but for what the faults of a list say.
-use Rattle.std.specs.Prelude.{◌≡◌, ◌<◌, ◌^◌, ◌++◌, ℕ, Bool, true, false, List, [], ◌∷◌, length, replicate, Option, Some, None, is_some, slice_index_or}
+use Rattle.std.specs.Prelude.{◌≡◌, ◌<◌, ◌^◌, ◌++◌, ℕ, Bool, true, false, List, [], ◌∷◌, length, replicate, Option, Some}
+use Rattle.std.specs.Prelude.{None, is_some, slice_index_or}
 use Rattle.std.specs.BTreeMap.{BTreeMap, get}
 use Rattle.std.specs.List.{list_any}
 use Rattle.cw_types.specs.declared.ids.PartKey.{PartKey}

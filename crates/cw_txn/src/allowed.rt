@@ -1,5 +1,6 @@
 //! Whether an entry may stand behind others.
-ghost use Rattle.std.specs.Prelude.{◌≡◌, ◌↔◌, IsTrue, IfOk, OnOk, All, List, ℕ, map, length, Some, true, is_none, if◌then◌else◌};
+ghost use Rattle.std.specs.Prelude.{◌≡◌, ◌↔◌, IsTrue, IfOk, OnOk, All, List, ℕ, map, length, Some, true, is_none};
+ghost use Rattle.std.specs.Prelude.{if◌then◌else◌};
 ghost use Rattle.std.specs.List.{IsDistinct};
 ghost use Rattle.std.specs.Option.{option_copied};
 ghost use Rattle.std.specs.BTreeMap.{get, is_at};
@@ -8,7 +9,8 @@ ghost use Rattle.cw_types.specs.declared.ids.Span.{Span};
 ghost use Rattle.cw_txn.specs.declared.entry.Entry.{Entry};
 ghost use Rattle.cw_txn.specs.declared.entry.SetOffset.{SetOffset};
 ghost use Rattle.cw_types.specs.Same.{same_part, connector_of, part_order};
-ghost use Rattle.cw_txn.specs.Allowed.{IsRaw, IsSourceOf, IsSinkOf, CommitsOwn, SetsOwn, IsAllowedBehind, IsAllowedCommit, IsAllowedSet};
+ghost use Rattle.cw_txn.specs.Allowed.{IsRaw, IsSourceOf, IsSinkOf, CommitsOwn, SetsOwn, IsAllowedBehind};
+ghost use Rattle.cw_txn.specs.Allowed.{IsAllowedCommit, IsAllowedSet};
 ghost use Rattle.cw_txn.specs.Tables.{Keeps, is_of};
 
 use crate::coordinator::have_distinct_parts;

@@ -1,11 +1,14 @@
 //! Bodies of the transaction log.
-ghost use Rattle.std.specs.Prelude.{◌≡◌, ◌≢◌, ◌++◌, List, length, Some, None, Ok, Err, IfOk, OnOk, MatchResult, ◌<◌, ◌^◌};
+ghost use Rattle.std.specs.Prelude.{◌≡◌, ◌≢◌, ◌++◌, List, length, Some, None, Ok, Err, IfOk, OnOk, MatchResult, ◌<◌};
+ghost use Rattle.std.specs.Prelude.{◌^◌};
 ghost use Rattle.cw_bytes.specs.Reading.{Gives, many_at, span_at};
 ghost use Rattle.cw_txn.specs.declared.entry.Entry.{Entry};
 ghost use Rattle.cw_txn.specs.declared.body.BodyFault.{BodyFault};
-ghost use Rattle.cw_txn.specs.Body.{entries_bytes, entry_bytes, set_bytes, list_bytes, IsEntry, IsSet, IsList, AreEntries, AreShort, IsShort};
+ghost use Rattle.cw_txn.specs.Body.{entries_bytes, entry_bytes, set_bytes, list_bytes, IsEntry, IsSet, IsList};
+ghost use Rattle.cw_txn.specs.Body.{AreEntries, AreShort, IsShort};
 ghost use Rattle.cw_bytes.specs.Spelling.{span_bytes, IsSpan};
-ghost use Rattle.cw_txn.specs.BodyReading.{some_offset_at, offset_at, set_at, list_at, spans_at, sets_at, bump_at, commit_at, set_entry_at, entry_at, count_at, entries_at, body_at};
+ghost use Rattle.cw_txn.specs.BodyReading.{some_offset_at, offset_at, set_at, list_at, spans_at, sets_at, bump_at};
+ghost use Rattle.cw_txn.specs.BodyReading.{commit_at, set_entry_at, entry_at, count_at, entries_at, body_at};
 
 use crate::entry::{Entry, SetOffset};
 use cw_bytes::{

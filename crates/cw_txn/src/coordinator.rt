@@ -1,5 +1,7 @@
 //! The transaction coordinator.
-ghost use Rattle.std.specs.Prelude.{◌≡◌, ◌≢◌, ◌≤◌, ◌<◌, ◌+◌, ℕ, [], ◌∷◌, ◌++◌, List, length, map, Contains, All, IfOk, OnOk, OnErr, IsOk, IfErr, ⊤, IsTrue, ◌↔◌, false, MatchOption, slice_get, Some, unwrap_or, ◌^◌};
+ghost use Rattle.std.specs.Prelude.{◌≡◌, ◌≢◌, ◌≤◌, ◌<◌, ◌+◌, ℕ, [], ◌∷◌, ◌++◌, List, length, map, Contains, All, IfOk};
+ghost use Rattle.std.specs.Prelude.{OnOk, OnErr, IsOk, IfErr, ⊤, IsTrue, ◌↔◌, false, MatchOption, slice_get, Some};
+ghost use Rattle.std.specs.Prelude.{unwrap_or, ◌^◌};
 ghost use Rattle.std.specs.List.{IsDistinct, list_any};
 ghost use Rattle.cw_types.specs.declared.ids.PartKey.{PartKey};
 ghost use Rattle.cw_types.specs.declared.ids.Tid.{Tid};

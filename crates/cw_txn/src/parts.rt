@@ -5,7 +5,8 @@ ghost use Rattle.std.specs.BTreeMap.{get};
 ghost use Rattle.cw_types.specs.Same.{part_order};
 ghost use Rattle.cw_txn.specs.History.{GoesOn};
 ghost use Rattle.cw_txn.specs.Walk.{IsSpanTest};
-ghost use Rattle.cw_txn.specs.Tables.{history_at, is_of, HasPart, KeepsParts, SameParts, MovesRow, MovesEnds, SetsParts};
+ghost use Rattle.cw_txn.specs.Tables.{history_at, is_of, HasPart, KeepsParts, SameParts, MovesRow, MovesEnds};
+ghost use Rattle.cw_txn.specs.Tables.{SetsParts};
 
 use crate::entry::SetOffset;
 use crate::history::History;

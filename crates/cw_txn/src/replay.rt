@@ -1,5 +1,6 @@
 //! One walk over the entries of a log, which fills the tables of a coordinator.
-ghost use Rattle.std.specs.Prelude.{◌≡◌, ◌≢◌, ◌↔◌, ◌+◌, ◌<◌, ◌^◌, ◌++◌, ◌∷◌, [], ℕ, List, length, replicate, slice_index_or, Some, None, Err, IfOk, IfErr, OnOk, OnErr, MatchResult};
+ghost use Rattle.std.specs.Prelude.{◌≡◌, ◌≢◌, ◌↔◌, ◌+◌, ◌<◌, ◌^◌, ◌++◌, ◌∷◌, [], ℕ, List, length, replicate};
+ghost use Rattle.std.specs.Prelude.{slice_index_or, Some, None, Err, IfOk, IfErr, OnOk, OnErr, MatchResult};
 ghost use Rattle.cw_bytes.specs.Reading.{Gives, many_at};
 ghost use Rattle.cw_types.specs.declared.ids.PartKey.{PartKey};
 ghost use Rattle.cw_txn.specs.declared.entry.Entry.{Entry};

@@ -26,7 +26,8 @@ pub struct Tables {
 }
 
 impl Tables {
-    ghost use Rattle.cw_txn.specs.Tables.{epoch_at, committed_at, history_at, entry_of, rows_from, first_parts, Keeps, HasRows, KeepsRows, SameRows};
+    ghost use Rattle.cw_txn.specs.Tables.{epoch_at, committed_at, history_at, entry_of, rows_from, first_parts, Keeps};
+    ghost use Rattle.cw_txn.specs.Tables.{HasRows, KeepsRows, SameRows};
     ghost use Rattle.cw_types.specs.Same.{part_order};
     ghost use Rattle.cw_txn.specs.Walk.{IsChainTest};
     ghost use Rattle.std.specs.BTreeMap.{IsOrdered};

@@ -1,5 +1,6 @@
 -- Which bytes are a name, and the first fault of others. The lengths and bytes are this project's own.
-use Rattle.std.specs.Prelude.{◌≡◌, ℕ, ◌==◌, ◌&&◌, Bool, not, List, length, nat_lt, nat_le, Option, None, Some, position, if◌then◌else◌}
+use Rattle.std.specs.Prelude.{◌≡◌, ℕ, ◌==◌, ◌&&◌, Bool, not, List, length, nat_lt, nat_le, Option, None, Some, position}
+use Rattle.std.specs.Prelude.{if◌then◌else◌}
 use Rattle.std.specs.Option.{option_map}
 use Rattle.cw_types.specs.declared.name.NameFault.{NameFault}
 use Rattle.cw_types.specs.declared.name.NameFault.TheVariants.{Empty, TooLong, BadByte}

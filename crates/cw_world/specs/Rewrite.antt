@@ -1,6 +1,7 @@
 -- What the replacement of a log's whole list does, as a compaction makes it: the log has the new list on its other
 -- side, or why it doesn't. That a log has two sides is this project's own.
-use Rattle.std.specs.Prelude.{◌≡◌, ◌⊎◌, ℕ, ◌+◌, ◌-◌, ◌<◌, ◌^◌, false, List, length, Some, None, Option, Result, option_map, MatchResult}
+use Rattle.std.specs.Prelude.{◌≡◌, ◌⊎◌, ℕ, ◌+◌, ◌-◌, ◌<◌, ◌^◌, false, List, length, Some, None, Option, Result}
+use Rattle.std.specs.Prelude.{option_map, MatchResult}
 use Rattle.cw_types.specs.declared.logs.LogName.{LogName}
 use Rattle.cw_types.specs.declared.logs.DiskName.{DiskName}
 use Rattle.cw_disk.specs.declared.device.Disk.{Ghosts}

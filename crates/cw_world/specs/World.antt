@@ -10,7 +10,8 @@ use Rattle.cw_model.specs.State.{Setting, Cluster}
 use Rattle.cw_model.specs.Answers.{Answer}
 use Rattle.cw_model.specs.Facts.{AreFacts}
 use Rattle.cw_model.specs.Reopening.{stored_of, closed_by}
-use Rattle.cw_world.specs.Logs.{LogsState, HoldAll, AreSides, HaveSameOthers, HasSameBodies, KeepsOn, AddsTo, LeavesNow, IsApart, view_in, list_in, faults_in}
+use Rattle.cw_world.specs.Logs.{LogsState, HoldAll, AreSides, HaveSameOthers, HasSameBodies, KeepsOn, AddsTo, LeavesNow}
+use Rattle.cw_world.specs.Logs.{IsApart, view_in, list_in, faults_in}
 use Rattle.cw_world.specs.Write.{FailsOn}
 
 -- the state, what stays the same, the logs, and which world it is

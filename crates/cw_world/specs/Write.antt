@@ -4,7 +4,8 @@ use Rattle.cw_types.specs.declared.logs.LogName.{LogName}
 use Rattle.cw_types.specs.declared.logs.DiskName.{DiskName}
 use Rattle.cw_types.specs.Faults.{Rose}
 use Rattle.cw_model.specs.declared.fault.WorldFault.{WorldFault}
-use Rattle.cw_model.specs.declared.fault.WorldFault.TheVariants.{Fenced, StaleGeneration, PendingFence, BadCut, Gone, Full, StoreFault, Closed, Dead, Group, TooMany, Memory}
+use Rattle.cw_model.specs.declared.fault.WorldFault.TheVariants.{Fenced, StaleGeneration, PendingFence, BadCut, Gone}
+use Rattle.cw_model.specs.declared.fault.WorldFault.TheVariants.{Full, StoreFault, Closed, Dead, Group, TooMany, Memory}
 use Rattle.cw_model.specs.Bodies.{frame_of, has_room}
 use Rattle.cw_model.specs.Reopening.{closed_by}
 use Rattle.cw_rows.specs.Kept.{Kept}

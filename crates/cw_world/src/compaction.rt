@@ -1,4 +1,5 @@
-//! Compaction of the logs of two sides (Kafka's compacted topics): a log's whole list is replaced by what is left of it.
+//! Compaction of the logs of two sides (Kafka's compacted topics): a log's whole list is replaced by what is left of
+//! it.
 ghost use Rattle.std.specs.Prelude.{◌≡◌, ◌≢◌, ◌+◌, ◌-◌, ◌<◌, ◌^◌, All, Err, None, IfOk, IfErr, OnOk};
 ghost use Rattle.cw_types.specs.declared.logs.LogName.TheVariants as log;
 ghost use Rattle.cw_log.specs.Log.{IsBody, length_of};

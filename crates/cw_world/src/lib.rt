@@ -8,8 +8,8 @@
 //! Each world has a name of its own, which no event changes: receipts and the journal show whose they are.
 //! It stands on the logs, on the cluster in memory, and on the laws of the model.
 //! It has all events of the model: those that touch no log (spawn, kill, deaf, hear, join, expire, close_round,
-//! store_plan, sync, read_config, start_item, stop_item, restart, verify, fetch, deliver and fail, and the clock); those
-//! of the transaction log (init, commit, claim_lead, fence_one, set_offsets, put_sink, raw_init, raw_commit);
+//! store_plan, sync, read_config, start_item, stop_item, restart, verify, fetch, deliver and fail, and the clock);
+//! those of the transaction log (init, commit, claim_lead, fence_one, set_offsets, put_sink, raw_init, raw_commit);
 //! append_config and append_fence of the config log; put_offsets of the offset log; put_status of the status log;
 //! produce of the data log; mark of the data and the offset log; compact of the config, the offset and the status log;
 //! and journal, which keeps the calls that were answered.

@@ -1,5 +1,5 @@
-//! Tests of what no contract says of the crates of words and of the pieces over them: that their calls succeed with ample
-//! memory, and what their texts are.
+//! Tests of what no contract says of the crates of words and of the pieces over them: that their calls succeed with
+//! ample memory, and what their texts are.
 //! They stand apart from the crates that they test, so that each of these is proved once. It has no code of its own.
 #![tactic(auto)]
 
