@@ -14,8 +14,6 @@ mod lines;
 mod parts;
 mod printing;
 mod rows;
-#[cfg(test)]
-mod tests;
 mod text;
 
 pub use auditing::audit;

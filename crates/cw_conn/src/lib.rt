@@ -16,6 +16,3 @@ pub use desk::Desk;
 pub use ends::ConnEnd;
 pub use memory_desk::MemDesk;
 pub use serving::serve_conn;
-
-#[cfg(test)]
-mod tests;

@@ -23,6 +23,3 @@ pub use memory_clock::MemClock;
 pub use memory_listener::MemListener;
 pub use system_clock::SystemClock;
 pub use tcp::PortListener;
-
-#[cfg(test)]
-mod tests;

@@ -1,5 +1,5 @@
-//! Tests of what no contract says of disks, logs and the states over these: that their calls succeed with ample memory,
-//! and what a failing call in their middle leaves.
+//! Tests of what no contract says of disks, logs, ports and the states over logs: that their calls succeed with ample
+//! memory, and what a failing call in their middle leaves.
 //! They stand apart from the crates that they test, so that each of these is proved once. It has no code of its own.
 #![tactic(auto)]
 
@@ -13,6 +13,8 @@ mod data;
 mod disk;
 #[cfg(test)]
 mod feed;
+#[cfg(test)]
+mod net;
 #[cfg(test)]
 mod offset;
 #[cfg(test)]

@@ -1,8 +1,8 @@
 //! What is in memory gives what it was given and fails where it is told to; the adapters reach the system.
-use crate::{
+use cw_io::{Failed, MemLink, send_all};
+use cw_net::{
     Clock, Gate, Listener, MemClock, MemListener, OpenGate, Point, PortListener, SystemClock,
 };
-use cw_io::{Failed, MemLink, send_all};
 use std::collections::VecDeque;
 use std::net::TcpListener;
 use std::test::Fail;

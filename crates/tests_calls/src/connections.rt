@@ -1,5 +1,5 @@
 //! What peers get for what they send, at once and byte by byte, and how their connections end.
-use crate::{ConnEnd, MemDesk, serve_conn};
+use cw_conn::{ConnEnd, MemDesk, serve_conn};
 use cw_io::MemLink;
 use cw_route::{Call, Reply, RouteFault};
 use cw_types::Listed;

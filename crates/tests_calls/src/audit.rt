@@ -1,5 +1,5 @@
 //! The audit of the log that two directives of a script leave.
-use crate::{AuditEnd, audit};
+use cw_audit::{AuditEnd, audit};
 use cw_disk::{Disks, MemDisk};
 use cw_feed::Feeds;
 use cw_io::{MemShelf, MemSink};
