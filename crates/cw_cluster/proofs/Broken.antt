@@ -14,9 +14,10 @@ use Rattle.cw_model.specs.Reopening.{stored_of}
 use Rattle.cw_model.specs.StandsFor.{Stored}
 use Rattle.cw_world.specs.Logs.{LogsState, Holds, HoldAll, HaveSameOthers, KeepsOn, view_in, faults_in}
 use Rattle.cw_world.specs.World.{WorldState, Breaks}
-use Rattle.cw_cluster.specs.Breaking.{HaveKinds, IsInFlight, IsLastWord, IsBrokenWith, ran_with, tell_all}
-use Rattle.cw_cluster.specs.Directives.{does}
-use Rattle.cw_cluster.specs.Ran.{Ran}
+use Rattle.cw_run.specs.Directives.{does}
+use Rattle.cw_run.specs.Flight.{IsInFlight, IsLastWord}
+use Rattle.cw_run.specs.Ran.{Ran}
+use Rattle.cw_cluster.specs.Breaking.{HaveKinds, IsBrokenWith, ran_with, tell_all}
 
 module _ {D : Type 0} (G : Ghosts D) where
   -- ---- what each log tells

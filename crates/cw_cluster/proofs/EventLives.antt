@@ -5,13 +5,13 @@ use Rattle.cw_script.specs.declared.directive.Directive.TheVariants as directive
 use Rattle.cw_model.specs.declared.fault.WorldFault.{WorldFault}
 use Rattle.cw_model.specs.State.{Setting, Cluster}
 use Rattle.cw_model.specs.Answers.{Answer}
+use Rattle.cw_edges.specs.Requests.{call_of}
+use Rattle.cw_run.specs.Answers.{pair_of}
+use Rattle.cw_run.proofs.Living.{IsOwnAnswer, Lives, answers-lives, clock-lives, commit-lives, compact-lives, deaf-lives, expire-lives, hear-lives, init-lives, kill-lives, spawn-lives, step-lives, tick-lives}
 use Rattle.cw_cluster.specs.declared.outcome.Outcome.{Outcome}
 use Rattle.cw_cluster.specs.declared.outcome.Outcome.TheVariants as came
-use Rattle.cw_cluster.specs.Answers.{pair_of}
 use Rattle.cw_cluster.specs.Events.{came_to, comes_to, event_of}
-use Rattle.cw_cluster.specs.Requests.{call_of}
 use Rattle.cw_cluster.proofs.Broken.{IsUnsettling}
-use Rattle.cw_cluster.proofs.Living.{IsOwnAnswer, Lives, answers-lives, clock-lives, commit-lives, compact-lives, deaf-lives, expire-lives, hear-lives, init-lives, kill-lives, spawn-lives, step-lives, tick-lives}
 
 came-own : {A : Type 0} (outcome : A → Outcome) (result : Result A WorldFault) → IsOwnAnswer result → IsOwnAnswer (came_to outcome result)
 came-own outcome (Ok x) own = tt

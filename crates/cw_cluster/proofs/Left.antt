@@ -16,10 +16,10 @@ use Rattle.cw_world.specs.Logs.{LogsState, Holds, IsApart, LeavesNow, view_in, l
 use Rattle.cw_world.specs.World.{WorldState}
 use Rattle.cw_open.specs.Leaving.{HaveKinds as HasKinds, LeaveLists, MayLeaveAll, StandForLists}
 use Rattle.cw_open.specs.Reopened.{DiskFiles}
+use Rattle.cw_run.specs.Ran.{Ran}
 use Rattle.cw_cluster.specs.Breaking.{HaveKinds, IsAlive, tell_all, ran_of}
 use Rattle.cw_cluster.specs.Lined.{IsBrokenInLine}
 use Rattle.cw_cluster.specs.Driven.{IsLeft, IsLeftBroken}
-use Rattle.cw_cluster.specs.Ran.{Ran}
 
 -- ---- one log and the others
 

@@ -22,18 +22,18 @@ use Rattle.cw_lines.specs.Players.{Playing, NoneFell, HasRisen, Caused, IsAt, is
 use Rattle.cw_lines.specs.Players as players
 use Rattle.cw_lines.specs.Players.HasStopped.{ended as stop_ended, left as stop_left, failed as stop_failed}
 use Rattle.cw_lines.specs.Plays.{Played, passed, stopped}
-use Rattle.cw_cluster.specs.Amid.{IsHalfSettled, IsRanAmid, files_behind, ran_behind}
-use Rattle.cw_cluster.specs.Answers.{Told}
+use Rattle.cw_run.specs.Amid.{IsHalfSettled, IsRanAmid, files_behind, ran_behind}
+use Rattle.cw_run.specs.Answers.{Told}
+use Rattle.cw_run.specs.Directives.{does}
+use Rattle.cw_run.specs.Ran.{Ran}
+use Rattle.cw_run.specs.Rules.{IsSaidAmid, drive_said, files_unless}
+use Rattle.cw_run.specs.Run.{missing, play_unless, played}
+use Rattle.cw_run.proofs.Alone.{settles-behind}
 use Rattle.cw_cluster.specs.Breaking.{IsAlive, IsBrokenIn, ran_of}
-use Rattle.cw_cluster.specs.Directives.{does}
 use Rattle.cw_cluster.specs.Driven.{faults_of}
 use Rattle.cw_cluster.specs.Lined.{PlaysOver, PlaysSaid, IsSaidLeft, IsSaidBroken, playing_of}
 use Rattle.cw_cluster.specs.Playing.{HasPlayed, HasEnded, HasLeft, HasFailed, HasStopped, IsLeftAmid, IsOutletKept, PlaysDirective, ran_played}
 use Rattle.cw_cluster.specs.Playing.HasStopped.{ended, left, failed}
-use Rattle.cw_cluster.specs.Ran.{Ran}
-use Rattle.cw_cluster.specs.Rules.{IsSaidAmid, drive_said, files_unless}
-use Rattle.cw_cluster.specs.Run.{missing, play_unless, played}
-use Rattle.cw_cluster.proofs.Alone.{settles-behind}
 use Rattle.cw_cluster.proofs.Broken.{KeepAll}
 use Rattle.cw_cluster.proofs.Played.{amid-behind}
 

@@ -19,20 +19,20 @@ use Rattle.cw_lines.specs.declared.end.DriveEnd.{DriveEnd}
 use Rattle.cw_lines.specs.declared.end.DriveEnd.TheVariants as ends
 use Rattle.cw_lines.specs.Players.{is_amid, is_own}
 use Rattle.cw_lines.specs.Plays.{Played}
+use Rattle.cw_run.specs.Amid.{IsRanAmid, files_behind, ran_behind}
+use Rattle.cw_run.specs.Answers.{Told, refusal, text_of}
+use Rattle.cw_run.specs.Directives.{does}
+use Rattle.cw_run.specs.Ran.{Ran}
+use Rattle.cw_run.specs.Run.{played, unless_worker}
+use Rattle.cw_run.proofs.Living.{IsOwnFault, IsOwnAnswer, Lives}
 use Rattle.cw_cluster.specs.declared.outcome.Outcome.{Outcome}
-use Rattle.cw_cluster.specs.Amid.{IsRanAmid, files_behind, ran_behind}
-use Rattle.cw_cluster.specs.Answers.{Told, refusal, text_of}
 use Rattle.cw_cluster.specs.Breaking.{IsAlive, IsBrokenWith, ran_with}
-use Rattle.cw_cluster.specs.Directives.{does}
 use Rattle.cw_cluster.specs.Events.{event_of, subject_of, IsPlain}
 use Rattle.cw_cluster.specs.Outcomes.{outcome_words}
 use Rattle.cw_cluster.specs.Playing.{HasPlayed, HasFailed, HasStopped, IsLeftAmid, PlaysDirective, ran_played}
 use Rattle.cw_cluster.specs.Playing.HasStopped.{ended, left, failed}
-use Rattle.cw_cluster.specs.Ran.{Ran}
-use Rattle.cw_cluster.specs.Run.{played, unless_worker}
 use Rattle.cw_cluster.specs.Saying.{Says}
 use Rattle.cw_cluster.proofs.Broken.{IsUnsettling, is-broken, kinds-same, says-nothing, tells-same}
-use Rattle.cw_cluster.proofs.Living.{IsOwnFault, IsOwnAnswer, Lives}
 use Rattle.cw_cluster.proofs.Worded.{does-event}
 
 -- ---- what is said

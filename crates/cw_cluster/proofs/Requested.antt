@@ -11,26 +11,27 @@ use Rattle.cw_model.specs.declared.fault.WorldFault.{WorldFault}
 use Rattle.cw_model.specs.declared.fault.WorldFault.TheVariants as fault
 use Rattle.cw_model.specs.Answers.{Answer}
 use Rattle.cw_model.specs.Reopening.{stored_of}
+use Rattle.cw_edges.specs.Requests.{answers, call_of}
 use Rattle.cw_world.specs.Logs.{HoldAll}
 use Rattle.cw_world.specs.World.{WorldState, Acts, Breaks}
 use Rattle.cw_world.proofs.Acting.{wants-acts}
 use Rattle.cw_herder.specs.Submits.{StopsShort, Submits}
 use Rattle.cw_lines.specs.declared.end.DriveEnd.{DriveEnd}
 use Rattle.cw_lines.specs.declared.end.DriveEnd.TheVariants as ends
+use Rattle.cw_run.specs.Answers.{text_of}
+use Rattle.cw_run.specs.Flight.{IsLastWord}
+use Rattle.cw_run.specs.Ran.{Ran}
+use Rattle.cw_run.proofs.Living.{IsOwnAnswer, answers-lives, has-written-open}
 use Rattle.cw_cluster.specs.declared.outcome.Outcome.TheVariants as came
-use Rattle.cw_cluster.specs.Answers.{text_of}
-use Rattle.cw_cluster.specs.Breaking.{IsAlive, IsLastWord, IsBrokenWith, ran_with}
+use Rattle.cw_cluster.specs.Breaking.{IsAlive, IsBrokenWith, ran_with}
 use Rattle.cw_cluster.specs.Events.{came_to, event_of}
 use Rattle.cw_cluster.specs.Outcomes.{outcome_words}
 use Rattle.cw_cluster.specs.Playing.{IsLeftAmid, PlaysDirective, ran_played}
 use Rattle.cw_cluster.specs.Playing.HasStopped.{failed}
-use Rattle.cw_cluster.specs.Ran.{Ran}
-use Rattle.cw_cluster.specs.Requests.{answers, call_of}
 use Rattle.cw_cluster.specs.Saying.{Says}
 use Rattle.cw_cluster.proofs.Broken.{IsUnsettling, is-broken, kinds-same, tells-same}
 use Rattle.cw_cluster.proofs.Coming.{acts-comes}
 use Rattle.cw_cluster.proofs.EventLives.{event-lives}
-use Rattle.cw_cluster.proofs.Living.{IsOwnAnswer, answers-lives, has-written-open}
 use Rattle.cw_cluster.proofs.Played.{is-played, said-wanted, same-ran}
 
 -- for want of memory it wasn't read

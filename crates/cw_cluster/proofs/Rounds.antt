@@ -6,11 +6,11 @@ use Rattle.std.proofs.lemmas.Bool.Decides.{eqb_tells}
 use Rattle.cw_model.specs.declared.fault.WorldFault.{WorldFault}
 use Rattle.cw_model.specs.State.{Setting, Cluster}
 use Rattle.cw_model.specs.Lookups.{row_of}
+use Rattle.cw_run.specs.Amid.{IsHalfSettled, IsCutSettling}
+use Rattle.cw_run.specs.Ran.{Ran, RanAnswer, ran_tick, ran_step}
+use Rattle.cw_run.specs.Settling.{Settled, tick_moves, step_moves, behind_turn, takes, ticks, may_step, steps, all_tick, all_step, round, rounds, settled}
 use Rattle.cw_cluster.specs.declared.turn.TurnFault.{TurnFault}
 use Rattle.cw_cluster.specs.declared.turn.TurnFault.TheVariants as halt
-use Rattle.cw_cluster.specs.Amid.{IsHalfSettled, IsCutSettling}
-use Rattle.cw_cluster.specs.Ran.{Ran, RanAnswer, ran_tick, ran_step}
-use Rattle.cw_cluster.specs.Settling.{Settled, tick_moves, step_moves, behind_turn, takes, ticks, may_step, steps, all_tick, all_step, round, rounds, settled}
 use Rattle.cw_cluster.specs.Turning.{Turns, moved_to, LeadsTo, none_left, IsStage, IsCutStage, Stops, HasSettled}
 use Rattle.cw_cluster.proofs.Turns.{IsOver, over-enough, AreIdle, idle-round, leads-then, stops-then}
 

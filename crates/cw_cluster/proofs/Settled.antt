@@ -14,24 +14,24 @@ use Rattle.cw_lines.specs.declared.end.DriveEnd.{DriveEnd}
 use Rattle.cw_lines.specs.declared.end.DriveEnd.TheVariants as ends
 use Rattle.cw_lines.specs.Players.{NoneFell, is_own}
 use Rattle.cw_lines.specs.Plays.{Played}
+use Rattle.cw_run.specs.Amid.{IsHalfSettled, ran_behind}
+use Rattle.cw_run.specs.Answers.{Told, refusal, text_of}
+use Rattle.cw_run.specs.Ran.{Ran, RanAnswer, alone, ran_tick, ran_step}
+use Rattle.cw_run.specs.Run.{played}
+use Rattle.cw_run.specs.Settling.{Settled, tick_moves, step_moves, behind_turn, takes, ticks, may_step, steps, all_tick, round, rounds, settled, settled_told, settles}
+use Rattle.cw_run.proofs.Alone.{settled_alone, settles-alone, settles-behind}
+use Rattle.cw_run.proofs.Living.{IsOwnAnswer, IsOwnFault, Lives, tick-lives, step-lives}
 use Rattle.cw_cluster.specs.declared.turn.TurnFault.{TurnFault}
 use Rattle.cw_cluster.specs.declared.turn.TurnFault.TheVariants.{Refused, Memory, Store, Outlet}
-use Rattle.cw_cluster.specs.Amid.{IsHalfSettled, ran_behind}
-use Rattle.cw_cluster.specs.Answers.{Told, refusal, text_of}
 use Rattle.cw_cluster.specs.Breaking.{IsAlive, IsBrokenIn, ran_of}
 use Rattle.cw_cluster.specs.Broken.{IsBrokenAt}
 use Rattle.cw_cluster.specs.Driven.{faults_of}
 use Rattle.cw_cluster.specs.Lined.{PlaysOver, SaysSettled, moved_text}
 use Rattle.cw_cluster.specs.Playing.{HasPlayed, HasStopped, IsLeftAmid, ran_played}
 use Rattle.cw_cluster.specs.Playing.HasStopped.{left, failed}
-use Rattle.cw_cluster.specs.Ran.{Ran, RanAnswer, alone, ran_tick, ran_step}
-use Rattle.cw_cluster.specs.Run.{played}
 use Rattle.cw_cluster.specs.Saying.{Says}
-use Rattle.cw_cluster.specs.Settling.{Settled, tick_moves, step_moves, behind_turn, takes, ticks, may_step, steps, all_tick, round, rounds, settled, settled_told, settles}
 use Rattle.cw_cluster.specs.Turning.{HasSettled, IsRefused, Settles, TurnCaused, UnlessBroken}
-use Rattle.cw_cluster.proofs.Alone.{settled_alone, settles-alone, settles-behind}
 use Rattle.cw_cluster.proofs.Lined.{fails-on}
-use Rattle.cw_cluster.proofs.Living.{IsOwnAnswer, IsOwnFault, Lives, tick-lives, step-lives}
 use Rattle.cw_cluster.proofs.Played.{own-text, said-played}
 use Rattle.cw_cluster.proofs.StepPlayed.{not-outlet}
 

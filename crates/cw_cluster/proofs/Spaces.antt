@@ -4,7 +4,7 @@ use Rattle.std.specs.Prelude.{OnOk}
 use Rattle.std.specs.List.{flat_map}
 use Rattle.std.proofs.lemmas.List.{take_all}
 use Rattle.cw_model.specs.TickText.{words}
-use Rattle.cw_cluster.specs.Answers.{worker_words}
+use Rattle.cw_run.specs.Answers.{worker_words}
 use Rattle.cw_cluster.specs.Outcomes.{spaced}
 
 -- the first one, and each other one behind a space

@@ -11,13 +11,13 @@ use Rattle.cw_model.specs.State.{Cluster}
 use Rattle.cw_model.specs.Answers.{Answer}
 use Rattle.cw_model.specs.Lookups.{instance_of}
 use Rattle.cw_model.specs.Steps.{step}
+use Rattle.cw_edges.specs.Handing.{file_of, with_delivery}
 use Rattle.cw_world.specs.World.{WorldState, RunsOut, Breaks}
 use Rattle.cw_sinktask.specs.declared.fault.SinkFault.TheVariants.{World, Outlet}
-use Rattle.cw_sinktask.specs.Gathered.{file_of}
-use Rattle.cw_sinktask.specs.Sinks.{with_delivery}
-use Rattle.cw_cluster.specs.Ran.{Ran, ran_step, stepped_files, IsCutIn}
-use Rattle.cw_cluster.specs.Stepping.{Steps, delivery_of}
-use Rattle.cw_cluster.proofs.Deliveries.{stepped-refused, stepped-done}
+use Rattle.cw_run.specs.Deliveries.{delivery_of}
+use Rattle.cw_run.specs.Ran.{Ran, ran_step, stepped_files, IsCutIn}
+use Rattle.cw_run.proofs.Deliveries.{stepped-refused, stepped-done}
+use Rattle.cw_cluster.specs.Stepping.{Steps}
 
 -- ---- the step
 

@@ -15,28 +15,28 @@ use Rattle.cw_model.specs.Answers.{Answer}
 use Rattle.cw_model.specs.Lookups.{instance_of}
 use Rattle.cw_model.specs.Reopening.{stored_of}
 use Rattle.cw_model.specs.Steps.{step}
+use Rattle.cw_edges.specs.Handing.{file_of, with_delivery}
 use Rattle.cw_world.specs.Logs.{HoldAll}
 use Rattle.cw_world.specs.World.{WorldState, Acts}
 use Rattle.cw_world.proofs.Keeping.{keeps-all}
 use Rattle.cw_sinktask.specs.declared.fault.SinkFault.{SinkFault}
 use Rattle.cw_sinktask.specs.declared.fault.SinkFault.TheVariants.{World, Outlet}
-use Rattle.cw_sinktask.specs.Gathered.{file_of}
-use Rattle.cw_sinktask.specs.Sinks.{with_delivery}
 use Rattle.cw_lines.specs.declared.end.DriveEnd.{DriveEnd}
 use Rattle.cw_lines.specs.declared.end.DriveEnd.TheVariants as ends
+use Rattle.cw_run.specs.Answers.{text_of}
+use Rattle.cw_run.specs.Deliveries.{delivery_of}
+use Rattle.cw_run.proofs.Deliveries.{stepped-refused}
 use Rattle.cw_cluster.specs.declared.outcome.Outcome.{Outcome}
 use Rattle.cw_cluster.specs.declared.outcome.Outcome.TheVariants as came
-use Rattle.cw_cluster.specs.Answers.{text_of}
 use Rattle.cw_cluster.specs.Breaking.{IsAlive, ran_with}
 use Rattle.cw_cluster.specs.Events.{came_to, event_of}
 use Rattle.cw_cluster.specs.Outcomes.{outcome_words}
 use Rattle.cw_cluster.specs.Playing.{IsOutletKept, PlaysDirective}
 use Rattle.cw_cluster.specs.Playing.HasStopped.{left}
 use Rattle.cw_cluster.specs.Saying.{Says}
-use Rattle.cw_cluster.specs.Stepping.{Steps, delivery_of}
+use Rattle.cw_cluster.specs.Stepping.{Steps}
 use Rattle.cw_cluster.proofs.Broken.{IsUnsettling}
 use Rattle.cw_cluster.proofs.Coming.{acts-comes}
-use Rattle.cw_cluster.proofs.Deliveries.{stepped-refused}
 use Rattle.cw_cluster.proofs.EventLives.{event-lives}
 use Rattle.cw_cluster.proofs.Played.{is-played}
 use Rattle.cw_cluster.proofs.StepLeaves.{files-as, same-files}

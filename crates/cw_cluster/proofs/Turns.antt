@@ -6,12 +6,13 @@ use Rattle.cw_model.specs.declared.did.Did.{Did}
 use Rattle.cw_model.specs.declared.fault.WorldFault.{WorldFault}
 use Rattle.cw_model.specs.State.{Setting, Cluster}
 use Rattle.cw_model.specs.Lookups.{row_of}
-use Rattle.cw_cluster.specs.Ran.{Ran, RanAnswer, ran_tick, ran_step, IsCutIn}
+use Rattle.cw_run.specs.Flight.{IsBehindTurn}
+use Rattle.cw_run.specs.Ran.{Ran, RanAnswer, ran_tick, ran_step, IsCutIn}
+use Rattle.cw_run.specs.Settling.{Settled, tick_moves, step_moves, behind_turn, takes, ticks, may_step, steps, all_tick, all_step, round}
+use Rattle.cw_run.proofs.Deliveries.{IsStillRan, open-deliver}
 use Rattle.cw_cluster.specs.declared.turn.TurnFault.{TurnFault}
 use Rattle.cw_cluster.specs.declared.turn.TurnFault.TheVariants as halt
-use Rattle.cw_cluster.specs.Settling.{Settled, tick_moves, step_moves, behind_turn, takes, ticks, may_step, steps, all_tick, all_step, round}
-use Rattle.cw_cluster.specs.Turning.{IsTurn, Turns, moved_to, LeadsTo, none_left, IsStage, IsCutStage, IsBehindTurn, IsRefused, Stops, TakesTurns, tick_each, steps_of, step_each}
-use Rattle.cw_cluster.proofs.Deliveries.{IsStillRan, open-deliver}
+use Rattle.cw_cluster.specs.Turning.{IsTurn, Turns, moved_to, LeadsTo, none_left, IsStage, IsCutStage, IsRefused, Stops, TakesTurns, tick_each, steps_of, step_each}
 
 -- ---- where no turn is taken any more
 

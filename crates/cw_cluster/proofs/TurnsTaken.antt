@@ -16,6 +16,7 @@ use Rattle.cw_model.specs.Lookups.{instance_of}
 use Rattle.cw_model.specs.Reopening.{stored_of}
 use Rattle.cw_model.specs.Steps.{step}
 use Rattle.cw_model.specs.Tick.{tick}
+use Rattle.cw_edges.specs.Handing.{file_of, with_delivery}
 use Rattle.cw_world.specs.Logs.{LogsState, HoldAll}
 use Rattle.cw_world.specs.Moments.{at_moment}
 use Rattle.cw_world.specs.World.{WorldState, Acts, RunsOut, Breaks}
@@ -24,20 +25,19 @@ use Rattle.cw_herder.proofs.Asked.{at-own}
 use Rattle.cw_lines.specs.Players.{NoneFell}
 use Rattle.cw_sinktask.specs.declared.fault.SinkFault.{SinkFault}
 use Rattle.cw_sinktask.specs.declared.fault.SinkFault.TheVariants.{World, Outlet}
-use Rattle.cw_sinktask.specs.Gathered.{file_of}
-use Rattle.cw_sinktask.specs.Sinks.{with_delivery}
+use Rattle.cw_run.specs.Deliveries.{delivery_of}
+use Rattle.cw_run.specs.Ran.{Ran, RanAnswer, ran_tick, ran_step, stepped_files, IsCutIn}
+use Rattle.cw_run.proofs.Deliveries.{stepped-refused, stepped-done}
+use Rattle.cw_run.proofs.Living.{IsOwnAnswer, IsOwnFault, Lives, tick-lives, step-lives}
 use Rattle.cw_cluster.specs.declared.turn.TurnFault.{TurnFault}
 use Rattle.cw_cluster.specs.declared.turn.TurnFault.TheVariants as turn
 use Rattle.cw_cluster.specs.Breaking.{IsAlive, ran_of, tell_all}
 use Rattle.cw_cluster.specs.Broken.{IsBrokenAt}
 use Rattle.cw_cluster.specs.Driven.{faults_of}
-use Rattle.cw_cluster.specs.Ran.{Ran, RanAnswer, ran_tick, ran_step, stepped_files, IsCutIn}
-use Rattle.cw_cluster.specs.Stepping.{Steps, delivery_of}
+use Rattle.cw_cluster.specs.Stepping.{Steps}
 use Rattle.cw_cluster.specs.Turning.{IsTurn, IsTick, IsStep, TurnCaused, UnlessBroken, fault_of_turn}
 use Rattle.cw_cluster.proofs.Broken.{KeepAll, kinds-same, tells-same, told-in, others-hold}
-use Rattle.cw_cluster.proofs.Deliveries.{stepped-refused, stepped-done}
 use Rattle.cw_cluster.proofs.Lined.{has-risen, none-fell, same-counts}
-use Rattle.cw_cluster.proofs.Living.{IsOwnAnswer, IsOwnFault, Lives, tick-lives, step-lives}
 use Rattle.cw_cluster.proofs.Played.{same-ran}
 use Rattle.cw_cluster.proofs.StepLeaves.{files-as, same-files}
 

@@ -15,17 +15,17 @@ use Rattle.cw_model.specs.EventsRaw.{raw_init, raw_commit}
 use Rattle.cw_model.specs.EventsCompaction.{compact}
 use Rattle.cw_model.specs.Tick.{tick}
 use Rattle.cw_model.specs.Steps.{step}
+use Rattle.cw_edges.specs.Requests.{answers, call_of}
 use Rattle.cw_lines.specs.declared.end.DriveEnd.{DriveEnd}
+use Rattle.cw_run.specs.Answers.{told, says, text_of, pair_of}
+use Rattle.cw_run.specs.Directives.{does}
+use Rattle.cw_run.specs.Looks.{id_words, record_words}
+use Rattle.cw_run.specs.Ran.{alone}
+use Rattle.cw_run.specs.Settling.{Settled, settled, settled_told}
 use Rattle.cw_cluster.specs.declared.outcome.Outcome.{Outcome}
 use Rattle.cw_cluster.specs.declared.outcome.Outcome.TheVariants as came
-use Rattle.cw_cluster.specs.Answers.{told, says, text_of, pair_of}
-use Rattle.cw_cluster.specs.Directives.{does}
 use Rattle.cw_cluster.specs.Events.{came_to, comes_to, compacted, event_of, found, settling, subject_of}
-use Rattle.cw_cluster.specs.Looks.{id_words, record_words}
 use Rattle.cw_cluster.specs.Outcomes.{outcome_words, incarnation_words}
-use Rattle.cw_cluster.specs.Ran.{alone}
-use Rattle.cw_cluster.specs.Requests.{answers, call_of}
-use Rattle.cw_cluster.specs.Settling.{Settled, settled, settled_told}
 
 -- an answer in words, and the same as an outcome
 came-words : {A : Type 0} (group : List ℕ) (n : ℕ) (outcome : A → Outcome) (text : A → List (List ℕ)) (result : Result A WorldFault) →

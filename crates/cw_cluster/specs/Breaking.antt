@@ -1,7 +1,7 @@
 -- What is left of a world and of its outlet where a disk failed in a directive: of the one log that was written to
 -- whichever images a stop leaves stand for its list before the event in flight or behind it, and all others hold what
 -- stood before it. This project's own.
-use Rattle.std.specs.Prelude.{◌≡◌, ◌≢◌, ◌⊎◌, ℕ, ◌&&◌, Bool, true, List, [], ◌∷◌, ◌++◌, Option, None, is_some}
+use Rattle.std.specs.Prelude.{◌≡◌, ◌≢◌, ◌⊎◌, ℕ, ◌&&◌, Bool, true, List, Option, None, is_some}
 use Rattle.cw_types.specs.declared.logs.LogName.{LogName}
 use Rattle.cw_types.specs.declared.logs.LogName.TheVariants.{Config, Offsets, Status, Txn, Batches}
 use Rattle.cw_disk.specs.declared.device.Disk.{Ghosts}
@@ -9,18 +9,12 @@ use Rattle.cw_io.specs.declared.outlet.Outlet as outlet
 use Rattle.cw_io.specs.Shelf.{Files}
 use Rattle.cw_log.specs.Log.{kind_of}
 use Rattle.cw_script.specs.declared.directive.Directive.{Directive}
-use Rattle.cw_script.specs.declared.directive.Directive.TheVariants.{Settle, Rest}
-use Rattle.cw_rest.specs.Messages.{failed_reply}
 use Rattle.cw_model.specs.State.{Setting, Cluster}
 use Rattle.cw_model.specs.Reopening.{stored_of}
-use Rattle.cw_model.specs.TickText.{words}
 use Rattle.cw_world.specs.Logs.{LogsState, Holds, IsApart, LeavesNow, view_in, list_in}
 use Rattle.cw_world.specs.World.{WorldState}
-use Rattle.cw_cluster.specs.Amid.{IsHalfSettled}
-use Rattle.cw_cluster.specs.Answers.{reply_words}
-use Rattle.cw_cluster.specs.Directives.{does}
-use Rattle.cw_cluster.specs.Ran.{Ran}
-use Rattle.cw_cluster.specs.Turning.{IsBehindTurn}
+use Rattle.cw_run.specs.Flight.{IsInFlight, IsLastWord}
+use Rattle.cw_run.specs.Ran.{Ran}
 
 -- whether all logs tell what they hold
 abbrev pub tell_all : {D : Type 0} → Ghosts D → LogsState D → Bool
@@ -44,20 +38,6 @@ HaveKinds G logs = (any : LogName) → (view_in G any logs).kind ≡ kind_of any
 pub record IsAlive {D : Type 0} (G : Ghosts D) (world : WorldState D) : Type 0 where
   pub alive : world.state.closed ≡ None
   pub kinds : HaveKinds G world.logs
-
--- where a directive is played from one running cluster, an event of it was to make of another one this state
-abbrev pub IsInFlight : Setting → Directive → (ran at : Ran) → (next : Cluster) → Type 0
-IsInFlight setting (Settle most) ran at next = IsHalfSettled setting most ran at × IsBehindTurn setting at.cluster next
-IsInFlight setting directive ran at next = (at ≡ ran) × (next ≡ (does setting directive ran.cluster).1)
-
--- the line that replies to a request that the store failed
-abbrev pub failed_line : List ℕ
-failed_line = words (reply_words failed_reply) ++ 10 ∷ []
-
--- what may be said last where a disk failed: to a request this, else nothing
-abbrev pub IsLastWord : Directive → List ℕ → Type 0
-IsLastWord (Rest w method target body) said = (said ≡ []) ⊎ (said ≡ failed_line)
-IsLastWord directive said = said ≡ []
 
 -- a disk failed in a directive that was played from a running cluster; these files are told
 pub record IsBrokenWith {D : Type 0} (G : Ghosts D) (setting : Setting) (directive : Directive) (ran : Ran)

@@ -7,8 +7,8 @@ use Rattle.cw_model.specs.State.{Cluster}
 use Rattle.cw_model.specs.Reopening.{stored_of}
 use Rattle.cw_world.specs.Logs.{Holds, IsApart, LeavesNow, view_in, list_in}
 use Rattle.cw_world.specs.World.{WorldState}
+use Rattle.cw_run.specs.Ran.{Ran}
 use Rattle.cw_cluster.specs.Breaking.{HaveKinds, tell_all}
-use Rattle.cw_cluster.specs.Ran.{Ran}
 
 -- A disk failed where the one running cluster was to get the other state: of the one log that was written to whichever
 -- images a stop leaves stand for its list before or behind the event, and all else is as it was.

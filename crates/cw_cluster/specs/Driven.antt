@@ -13,8 +13,8 @@ use Rattle.cw_world.specs.Ending.{disks_of}
 use Rattle.cw_world.specs.World.{WorldState}
 use Rattle.cw_open.specs.Leaving.{LeaveLists, MayLeaveAll, StandForLists}
 use Rattle.cw_open.specs.Reopened.{DiskFiles, disk_in}
-use Rattle.cw_cluster.specs.Breaking.{IsInFlight, IsLastWord}
-use Rattle.cw_cluster.specs.Ran.{Ran}
+use Rattle.cw_run.specs.Flight.{IsInFlight, IsLastWord}
+use Rattle.cw_run.specs.Ran.{Ran}
 
 -- the counts of faults of eight disks and an outlet
 abbrev pub faults_at : {D U : Type 0} → Ghosts D → outlet.Ghosts U → Disks D → U → Faults

@@ -18,12 +18,12 @@ use Rattle.cw_model.specs.EventsRaw.{raw_init, raw_commit}
 use Rattle.cw_model.specs.EventsCompaction.{compact}
 use Rattle.cw_model.specs.Tick.{tick}
 use Rattle.cw_model.specs.Steps.{step}
+use Rattle.cw_edges.specs.Requests.{answers, call_of}
+use Rattle.cw_run.specs.Answers.{pair_of}
+use Rattle.cw_run.specs.Ran.{alone}
+use Rattle.cw_run.specs.Settling.{Settled, settled, is_quiet}
 use Rattle.cw_cluster.specs.declared.outcome.Outcome.{Outcome}
 use Rattle.cw_cluster.specs.declared.outcome.Outcome.TheVariants as came
-use Rattle.cw_cluster.specs.Answers.{pair_of}
-use Rattle.cw_cluster.specs.Ran.{alone}
-use Rattle.cw_cluster.specs.Requests.{answers, call_of}
-use Rattle.cw_cluster.specs.Settling.{Settled, settled, is_quiet}
 
 -- what was answered, as an outcome
 abbrev pub came_to : {A : Type 0} → (A → Outcome) → Result A WorldFault → Result Outcome WorldFault

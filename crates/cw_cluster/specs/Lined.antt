@@ -15,16 +15,16 @@ use Rattle.cw_lines.specs.declared.end.DriveEnd.{DriveEnd}
 use Rattle.cw_lines.specs.declared.end.DriveEnd.TheVariants.{StoreFault, OutletFault, Memory}
 use Rattle.cw_lines.specs.Players.{Playing, NoneFell, Caused, IsAt}
 use Rattle.cw_lines.specs.Players as players
+use Rattle.cw_run.specs.Answers.{refusal}
+use Rattle.cw_run.specs.Ran.{Ran}
+use Rattle.cw_run.specs.Rules.{IsSaidAmid, drive_said}
+use Rattle.cw_run.specs.Settling.{is_quiet, quiet_text}
 use Rattle.cw_cluster.specs.declared.turn.TurnFault.{TurnFault}
 use Rattle.cw_cluster.specs.declared.turn.TurnFault.TheVariants.{Refused, Memory as Wanting, Store, Outlet}
-use Rattle.cw_cluster.specs.Answers.{refusal}
 use Rattle.cw_cluster.specs.Breaking.{IsAlive, IsBrokenIn, ran_of}
 use Rattle.cw_cluster.specs.Driven.{faults_of}
 use Rattle.cw_cluster.specs.Playing.{HasPlayed, HasStopped, IsLeftAmid, ran_played}
-use Rattle.cw_cluster.specs.Ran.{Ran}
-use Rattle.cw_cluster.specs.Rules.{IsSaidAmid, drive_said}
 use Rattle.cw_cluster.specs.Saying.{Says}
-use Rattle.cw_cluster.specs.Settling.{is_quiet, quiet_text}
 
 -- ---- a directive
 

@@ -4,12 +4,11 @@ use Rattle.std.specs.Prelude.{ℕ, List, [], ◌∷◌, ◌++◌, map, Option, S
 use Rattle.std.specs.List.{flat_map}
 use Rattle.uuid.specs.Text.{lower, hyphenated_text}
 use Rattle.cw_model.specs.TickText.{item_text}
+use Rattle.cw_run.specs.Answers.{epoch_words, committed_words, worker_words, tick_words, step_words, compacted_words, reply_words}
+use Rattle.cw_run.specs.Looks.{uuid_of, member_name, record_words}
+use Rattle.cw_run.specs.Settling.{quiet_text}
 use Rattle.cw_cluster.specs.declared.outcome.Outcome.{Outcome}
 use Rattle.cw_cluster.specs.declared.outcome.Outcome.TheVariants as came
-use Rattle.cw_cluster.specs.Answers.{epoch_words, committed_words, worker_words, tick_words, step_words}
-use Rattle.cw_cluster.specs.Answers.{compacted_words, reply_words}
-use Rattle.cw_cluster.specs.Looks.{uuid_of, member_name, record_words}
-use Rattle.cw_cluster.specs.Settling.{quiet_text}
 
 -- words, each behind a space
 abbrev pub spaced : List (List ℕ) → List ℕ

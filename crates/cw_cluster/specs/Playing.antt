@@ -18,11 +18,11 @@ use Rattle.cw_lines.specs.declared.end.DriveEnd.{DriveEnd}
 use Rattle.cw_lines.specs.declared.end.DriveEnd.TheVariants.{StoreFault, OutletFault}
 use Rattle.cw_lines.specs.Players.{is_amid, is_own}
 use Rattle.cw_lines.specs.Plays.{Played}
-use Rattle.cw_cluster.specs.Amid.{IsRanAmid, ran_behind}
+use Rattle.cw_run.specs.Amid.{IsRanAmid, ran_behind}
+use Rattle.cw_run.specs.Directives.{does}
+use Rattle.cw_run.specs.Ran.{Ran}
+use Rattle.cw_run.specs.Run.{played}
 use Rattle.cw_cluster.specs.Breaking.{IsAlive, IsBrokenWith, ran_with}
-use Rattle.cw_cluster.specs.Directives.{does}
-use Rattle.cw_cluster.specs.Ran.{Ran}
-use Rattle.cw_cluster.specs.Run.{played}
 
 -- what a directive plays: its answer, and how far it ran behind it
 abbrev pub ran_played : Setting → Directive → Ran → Played Ran

@@ -1,30 +1,18 @@
 -- What a step of an instance does to the world and to the outlet: a sink's task may hand out records into its file, and
 -- any other leaves the outlet as it is.
-use Rattle.std.specs.Prelude.{◌≡◌, ◌≤◌, ℕ, Option, Some, None, is_some, Result, Ok, Err, if◌then◌else◌}
+use Rattle.std.specs.Prelude.{◌≡◌, ◌≤◌, ℕ, Some, is_some, Result, Ok, Err}
 use Rattle.cw_io.specs.declared.outlet.Outlet as outlet
 use Rattle.cw_io.specs.Shelf.{Files}
 use Rattle.cw_disk.specs.declared.device.Disk.{Ghosts}
 use Rattle.cw_model.specs.declared.did.Did.{Did}
 use Rattle.cw_model.specs.Lookups.{instance_of}
-use Rattle.cw_model.specs.Polls.{Delivery}
 use Rattle.cw_model.specs.State.{Cluster}
-use Rattle.cw_model.specs.Tasks.{is_sink}
+use Rattle.cw_edges.specs.Handing.{file_of, with_delivery}
 use Rattle.cw_world.specs.World.{WorldState}
 use Rattle.cw_sinktask.specs.declared.fault.SinkFault.{SinkFault}
 use Rattle.cw_sinktask.specs.declared.fault.SinkFault.TheVariants.{World, Outlet}
-use Rattle.cw_sinktask.specs.Gathered.{file_of}
-use Rattle.cw_sinktask.specs.Poured.{IsPouredInPart}
-use Rattle.cw_sinktask.specs.Sinks.{ActsOrNot, IsCounted, hands_out, with_delivery}
-
--- what an instance hands out at its next step, where it does
-abbrev pub delivery_of : ℕ → Cluster → Option Delivery
-delivery_of i s = if is_sink (instance_of i s) then hands_out i s else None
-
--- a first part of it was put into its file
-pub record IsCutOff (i : ℕ) (s : Cluster) (held left : Files) : Type 0 where
-  pub delivery : Delivery
-  pub is : delivery_of i s ≡ Some delivery
-  pub part : IsPouredInPart (file_of (instance_of i s)) delivery.lines held left
+use Rattle.cw_sinktask.specs.Sinks.{ActsOrNot, IsCounted}
+use Rattle.cw_run.specs.Deliveries.{delivery_of, IsCutOff}
 
 -- what a step leaves of the outlet's files
 abbrev pub Leaves : ℕ → Cluster → Result Did SinkFault → (held left : Files) → Type 0

@@ -1,6 +1,6 @@
 -- What the turns of a cluster come to where they are taken one by one: each is done or refused as the cluster has it,
 -- or memory is wanting, or a disk or an outlet fails. This project's own.
-use Rattle.std.specs.Prelude.{◌≡◌, ◌⊎◌, ◌≤◌, ◌<◌, ◌+◌, ◌||◌, ℕ, Bool, not, List, Some, None, is_none, Result, Ok, Err}
+use Rattle.std.specs.Prelude.{◌≡◌, ◌≤◌, ◌<◌, ◌+◌, ◌||◌, ℕ, Bool, not, List, Some, None, is_none, Result, Ok, Err}
 use Rattle.std.specs.List.{fold}
 use Rattle.cw_io.specs.Shelf.{Files}
 use Rattle.cw_types.specs.Faults.{Rose}
@@ -11,13 +11,14 @@ use Rattle.cw_model.specs.declared.tick.Tick.{Tick}
 use Rattle.cw_model.specs.State.{Setting, Cluster}
 use Rattle.cw_model.specs.EventsItems.{is_active}
 use Rattle.cw_model.specs.Steps.{step}
-use Rattle.cw_model.specs.Tick.{rule_for, tick}
+use Rattle.cw_model.specs.Tick.{rule_for}
 use Rattle.cw_lines.specs.Players.{Faults, HasRisen}
+use Rattle.cw_run.specs.Amid.{IsHalfSettled, IsCutSettling}
+use Rattle.cw_run.specs.Flight.{IsBehindTurn}
+use Rattle.cw_run.specs.Ran.{Ran, RanAnswer, ran_tick, ran_step, IsCutIn}
+use Rattle.cw_run.specs.Settling.{Settled, settled, ticks, steps, is_rest}
 use Rattle.cw_cluster.specs.declared.turn.TurnFault.{TurnFault}
 use Rattle.cw_cluster.specs.declared.turn.TurnFault.TheVariants.{Refused, Memory, Store, Outlet}
-use Rattle.cw_cluster.specs.Amid.{IsHalfSettled, IsCutSettling}
-use Rattle.cw_cluster.specs.Ran.{Ran, RanAnswer, ran_tick, ran_step, IsCutIn}
-use Rattle.cw_cluster.specs.Settling.{Settled, settled, ticks, steps, is_rest}
 
 -- ---- one turn
 
@@ -108,10 +109,6 @@ pub record IsCutStage (setting : Setting) (turns : Turns) (most from : ℕ) (r t
   pub cut : IsCutIn instance at t
   pub next : (held : Files) → at.files ≡ Some held → at.cluster.closed ≡ None →
       turns (moved + 1) (moved_to from r) ≡ moved_to (moved + 1) (ran_step setting instance at).1
-
--- a state behind a turn of a worker or of an instance
-abbrev pub IsBehindTurn : Setting → Cluster → Cluster → Type 0
-IsBehindTurn setting s t = ((w : ℕ) × (t ≡ (tick w s).1)) ⊎ ((i : ℕ) × (t ≡ (step setting i s).1))
 
 -- a disk failed where a state that was come to was to become the one behind its next turn
 pub record IsBroken (broken : Ran → Cluster → Type 0) (setting : Setting) (stage : Ran → Type 0) : Type 0 where

@@ -1,6 +1,6 @@
 //! The answers of a script, until they are written.
 ghost use Rattle.std.specs.Prelude.{ℕ, ◌≡◌, ◌++◌, [], Ok, Err, OnOk, MatchResult};
-ghost use Rattle.cw_cluster.specs.Answers.{refusal, text_of};
+ghost use Rattle.cw_run.specs.Answers.{refusal, text_of};
 ghost use Rattle.cw_cluster.specs.Outcomes.{outcome_words};
 ghost use Rattle.cw_cluster.specs.Saying.{Says, Writes, end_in, text_in};
 

@@ -2,7 +2,7 @@
 use std::marker::Brand;
 
 /// What stays so while a script is played, whatever its lines say.
-pub(crate) trait Begun {
+pub trait Begun {
     ghost use Rattle.std.specs.Prelude.{Bool};
     ghost use Rattle.cw_model.specs.State.{Setting};
 

@@ -3,10 +3,10 @@ ghost use Rattle.std.specs.Prelude.{◌≡◌, ◌≢◌, ◌<◌, length, Optio
 ghost use Rattle.cw_io.specs.Shelf.{Files};
 ghost use Rattle.cw_script.specs.Spelling.{IsSayable};
 ghost use Rattle.cw_world.specs.World.{Acts};
+ghost use Rattle.cw_run.specs.Run.{missing, unless_worker, unless_instance};
 ghost use Rattle.cw_cluster.specs.Breaking.{IsAlive};
 ghost use Rattle.cw_cluster.specs.Events.{event_of, subject_of, IsPlain};
 ghost use Rattle.cw_cluster.specs.Playing.{PlaysDirective};
-ghost use Rattle.cw_cluster.specs.Run.{missing, unless_worker, unless_instance};
 
 use crate::answers::Answers;
 use crate::events::{

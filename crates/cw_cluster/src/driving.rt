@@ -4,9 +4,9 @@ ghost use Rattle.cw_types.specs.Faults.{Rose};
 ghost use Rattle.cw_lines.specs.Due.{DrivesOver};
 ghost use Rattle.cw_lines.specs.Players.{NoneFell, Caused, player_of};
 ghost use Rattle.cw_world.specs.Ending.{disks_of};
+ghost use Rattle.cw_run.specs.Rules.{drive_rules};
 ghost use Rattle.cw_cluster.specs.Breaking.{IsAlive, ran_of};
 ghost use Rattle.cw_cluster.specs.Driven.{IsLeft, IsLeftBroken, faults_at, faults_of};
-ghost use Rattle.cw_cluster.specs.Rules.{drive_rules};
 
 use crate::begun::Begun;
 use crate::player::Player;

@@ -5,8 +5,8 @@ ghost use Rattle.cw_model.specs.Lookups.{held};
 ghost use Rattle.cw_script.specs.Spelling.{IsCommit, IsCompacted};
 ghost use Rattle.cw_script.specs.declared.directive.Directive.TheVariants as directive;
 ghost use Rattle.cw_world.specs.World.{Acts};
+ghost use Rattle.cw_run.specs.Answers.{pair_of};
 ghost use Rattle.cw_cluster.specs.declared.outcome.Outcome.TheVariants as came;
-ghost use Rattle.cw_cluster.specs.Answers.{pair_of};
 ghost use Rattle.cw_cluster.specs.Events.{event_of, found, incarnation_of, IsLook};
 
 use crate::outcome::Outcome;

@@ -1,23 +1,18 @@
-//! The script of a whole cluster: what each of its lines does, and what it is answered.
+//! The player of a cluster's script.
 //!
-//! Its definitions say the run of a script as a function of the cluster's state, the feeds and the lines: the answers,
-//! byte for byte, and the state behind each. Its public functions carry worked cases and laws of that run, each as a
-//! contract: every state of a run is safe.
 //! `drive` plays a script over a world and an outlet: its contract says, at each end, which answers were written, which
 //! state is left, what a stop leaves of the eight disks, and what the outlet's files grew by. Where a disk fails in a
 //! line, a stop leaves what stood before its event or behind it, and both are states of a run.
-//! It stands on the world and the steps over it, on the cluster's model and its laws, on the calls of the REST API, on
-//! what opens logs again, and on the language of scripts and its lines.
+//! `Player` plays lines one by one for whoever makes them, with the same contract.
+//! It stands on the run of a script as its definitions have it, on the world and the steps over it, on the cluster's
+//! model, on the calls of the REST API, on what opens logs again, and on the language of scripts and its lines.
 #![tactic(auto)]
 
 mod answers;
 mod begun;
-mod cases;
 mod directives;
 mod driving;
 mod events;
-mod flight_laws;
-mod laws;
 mod outcome;
 mod player;
 mod quiet;
@@ -30,18 +25,8 @@ mod turn;
 mod turning;
 mod wording;
 
-pub use cases::{
-    cluster_settles_half_way, connector_is_created_once_there_is_a_leader,
-    fewer_tasks_are_compacted, full_log_ends_the_script, killed_worker_answers_nothing,
-    lines_that_say_nothing_end_the_script, member_has_an_id, producers_are_judged_by_their_epochs,
-    request_is_answered_that_a_log_is_full, source_is_read_again_from_an_altered_offset,
-    zombie_is_fenced,
-};
+pub use begun::Begun;
 pub use cw_lines::DriveEnd;
 pub use driving::{Driven, drive};
-pub use flight_laws::what_is_in_flight_is_reached;
-pub use laws::{
-    each_interrupted_line_is_a_run, each_line_is_a_run, each_line_on_its_way_is_a_run,
-    each_script_is_a_run, each_script_is_played_alike, settling_is_a_run, turns_are_runs,
-    what_is_reached_is_safe,
-};
+pub use player::Player;
+pub use running::Running;

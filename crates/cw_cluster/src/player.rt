@@ -2,10 +2,10 @@
 ghost use Rattle.std.specs.Prelude.{◌≡◌, ◌<◌, [], Some, None, Ok, length};
 ghost use Rattle.cw_script.specs.Spelling.{IsSayable};
 ghost use Rattle.cw_script.specs.declared.directive.Directive.TheVariants as directive;
+ghost use Rattle.cw_run.specs.Run.{missing};
 ghost use Rattle.cw_cluster.specs.Breaking.{IsAlive};
 ghost use Rattle.cw_cluster.specs.Events.{IsPlain};
 ghost use Rattle.cw_cluster.specs.Lined.{PlaysOver, PlaysSaid, SaysSettled, moved_text};
-ghost use Rattle.cw_cluster.specs.Run.{missing};
 ghost use Rattle.cw_cluster.specs.Saying.{Says};
 
 use crate::answers::Answers;
@@ -21,21 +21,40 @@ use cw_disk::Disk;
 use cw_io::Outlet;
 use cw_lines::{DriveEnd, LinePlayer};
 use cw_script::{Directive, ScriptFault, read_line};
+use cw_world::World;
 
 /// What runs, and the answers to its script that aren't written yet.
-pub(crate) struct Player<K: Begun, D: Disk, U: Outlet> {
+pub struct Player<K: Begun, D: Disk, U: Outlet> {
     pub(crate) running: Running<K, D, U>,
     pub(crate) answers: Answers,
 }
 
 impl<K: Begun, D: Disk, U: Outlet> Player<K, D, U> {
     /// No answer waits.
-    pub(crate) fn new(running: Running<K, D, U>) -> Player<K, D, U>
+    pub fn new(running: Running<K, D, U>) -> Player<K, D, U>
         ensures running { result.running ≡ running }
         ensures answers { result.answers ≡ [] }
     {
         let answers = Answers::new(running.alloc);
         Player { running, answers }
+    }
+
+    /// The world that it plays over.
+    pub fn world(&self) -> &World<D>
+        ensures { result.now ≡ self.now.running.world }
+    {
+        &self.running.world
+    }
+
+    /// What runs, without the answers that wait.
+    pub fn into_running(self) -> Running<K, D, U>
+        ensures { result ≡ self.running }
+    {
+        let Player {
+            running,
+            answers: _,
+        } = self;
+        running
     }
 
     // Plays a directive, unless it names a worker or an instance that never was.
@@ -181,11 +200,11 @@ impl<K: Begun, D: Disk, U: Outlet> Player<K, D, U> {
 
 impl<K: Begun, D: Disk, U: Outlet> LinePlayer for Player<K, D, U> {
     ghost use Rattle.cw_model.specs.State.{Setting};
+    ghost use Rattle.cw_run.specs.Ran.{Ran};
+    ghost use Rattle.cw_run.specs.Rules.{drive_rules};
     ghost use Rattle.cw_cluster.specs.Breaking.{IsAlive};
     ghost use Rattle.cw_cluster.specs.Driven.{faults_of};
     ghost use Rattle.cw_cluster.specs.Lined.{IsBrokenInLine, playing_of};
-    ghost use Rattle.cw_cluster.specs.Ran.{Ran};
-    ghost use Rattle.cw_cluster.specs.Rules.{drive_rules};
 
     ghost Setting = { Setting };
 

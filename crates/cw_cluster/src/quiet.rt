@@ -4,7 +4,7 @@ ghost use Rattle.cw_model.specs.declared.instance.InstancePhase.TheVariants as p
 ghost use Rattle.cw_model.specs.Lookups.{instance_of};
 ghost use Rattle.cw_model.specs.State.{Cluster};
 ghost use Rattle.cw_ticks.specs.Turns.{rule_of};
-ghost use Rattle.cw_cluster.specs.Resting.{rests, rests_in};
+ghost use Rattle.cw_run.specs.Resting.{rests, rests_in};
 ghost use Rattle.cw_cluster.specs.Turning.{is_idle_at, rests_at};
 
 use crate::stepping::is_sink;

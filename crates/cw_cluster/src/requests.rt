@@ -2,10 +2,11 @@
 ghost use Rattle.std.specs.Prelude.{◌≡◌, ◌≢◌, ◌⊎◌, ◌<◌, ◌++◌, length, Option, Err, IfOk};
 ghost use Rattle.cw_io.specs.Shelf.{Files};
 ghost use Rattle.cw_script.specs.declared.directive.Directive.TheVariants as directive;
+ghost use Rattle.cw_edges.specs.Requests.{call_of};
 ghost use Rattle.cw_herder.specs.Submits.{Submits};
-ghost use Rattle.cw_cluster.specs.Breaking.{IsAlive, failed_line};
+ghost use Rattle.cw_run.specs.Flight.{failed_line};
+ghost use Rattle.cw_cluster.specs.Breaking.{IsAlive};
 ghost use Rattle.cw_cluster.specs.Playing.{PlaysDirective};
-ghost use Rattle.cw_cluster.specs.Requests.{call_of};
 
 use crate::answers::Answers;
 use crate::events::number_of;

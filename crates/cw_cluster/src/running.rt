@@ -3,10 +3,10 @@
 ghost use Rattle.std.specs.Prelude.{◌≡◌, ◌||◌, ℕ, List, is_some, not};
 ghost use Rattle.cw_model.specs.Phases.{is_ended, has_failed};
 ghost use Rattle.cw_world.specs.Ending.{disks_of};
+ghost use Rattle.cw_run.specs.Ran.{Ran};
 ghost use Rattle.cw_cluster.specs.Breaking.{IsAlive, ran_of};
 ghost use Rattle.cw_cluster.specs.Driven.{IsLeft, IsLeftBroken};
 ghost use Rattle.cw_cluster.specs.Lined.{IsBrokenInLine};
-ghost use Rattle.cw_cluster.specs.Ran.{Ran};
 ghost use Rattle.cw_cluster.specs.Turning.{fault_of_turn};
 
 use crate::begun::Begun;
@@ -26,7 +26,7 @@ use std::marker::PhantomData;
 
 /// A world, and the outlet that its sinks' tasks hand out to. What the cluster is set to and whether the outlet tells
 /// its files stay as they were when the drive began.
-pub(crate) struct Running<K: Begun, D: Disk, U: Outlet> {
+pub struct Running<K: Begun, D: Disk, U: Outlet> {
     pub(crate) alloc: Global,
     pub(crate) world: World<D>,
     pub(crate) outlet: U,
@@ -37,7 +37,7 @@ pub(crate) struct Running<K: Begun, D: Disk, U: Outlet> {
 
 impl<K: Begun, D: Disk, U: Outlet> Running<K, D, U> {
     /// Begins over a world and an outlet.
-    pub(crate) fn new(alloc: Global, world: World<D>, outlet: U) -> Running<K, D, U>
+    pub fn new(alloc: Global, world: World<D>, outlet: U) -> Running<K, D, U>
         requires setting { world.setting ≡ K.setting }
         requires told { is_some (U.files outlet) ≡ K.told }
         ensures world { result.world ≡ world }
@@ -53,7 +53,7 @@ impl<K: Begun, D: Disk, U: Outlet> Running<K, D, U> {
 
     /// Gives the disks and the outlet back: a stop leaves of the disks what stands in the cluster, or where a disk
     /// failed in a line what stood before its event or behind it.
-    pub(crate) fn give_back(self) -> (Disks<D>, U)
+    pub fn give_back(self) -> (Disks<D>, U)
         ensures disks { result.0 ≡ disks_of self.world.logs }
         ensures outlet { result.1 ≡ self.outlet }
         ensures left { IsAlive D.Disk self.world →

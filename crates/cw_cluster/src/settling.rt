@@ -2,7 +2,7 @@
 ghost use Rattle.std.specs.Prelude.{◌≡◌, ◌≤◌, ℕ, length, IfOk, IfErr};
 ghost use Rattle.std.specs.List.{list_all, range_with_len};
 ghost use Rattle.cw_lines.specs.Players.{NoneFell};
-ghost use Rattle.cw_cluster.specs.Settling.{tick_moves, step_moves, all_tick, all_step, round, is_quiet};
+ghost use Rattle.cw_run.specs.Settling.{tick_moves, step_moves, all_tick, all_step, round, is_quiet};
 ghost use Rattle.cw_cluster.specs.Turning.{TakesTurns, Settles, TurnCaused, UnlessBroken};
 ghost use Rattle.cw_cluster.specs.Turning.{ticks_of, steps_of, is_idle_at, rests_at};
 

@@ -3,8 +3,8 @@ ghost use Rattle.std.specs.Prelude.{◌≡◌, ◌<◌, ℕ, true, length, IfOk,
 ghost use Rattle.cw_model.specs.State.{Setting, Cluster};
 ghost use Rattle.cw_model.specs.Lookups.{row_of};
 ghost use Rattle.cw_lines.specs.Players.{Faults, NoneFell};
-ghost use Rattle.cw_cluster.specs.Ran.{Ran};
-ghost use Rattle.cw_cluster.specs.Settling.{may_step};
+ghost use Rattle.cw_run.specs.Ran.{Ran};
+ghost use Rattle.cw_run.specs.Settling.{may_step};
 ghost use Rattle.cw_cluster.specs.Turning.{IsTick, IsStep, TurnCaused, UnlessBroken, is_idle_at, rests_at};
 
 use crate::turn::TurnFault;

@@ -7,8 +7,8 @@ ghost use Rattle.cw_rest.specs.Offsets.{partition_of};
 ghost use Rattle.cw_model.specs.StepText.{step_text};
 ghost use Rattle.cw_model.specs.StepText as stepped;
 ghost use Rattle.cw_model.specs.TickText.{words, item_text};
-ghost use Rattle.cw_cluster.specs.Answers.{committed_words, reply_words, worker_words, span_words, part_number};
-ghost use Rattle.cw_cluster.specs.Looks.{member_name, uuid_of};
+ghost use Rattle.cw_run.specs.Answers.{committed_words, reply_words, worker_words, span_words, part_number};
+ghost use Rattle.cw_run.specs.Looks.{member_name, uuid_of};
 ghost use Rattle.cw_cluster.specs.Outcomes.{incarnation_words, outcome_words, spaced};
 
 use crate::outcome::Outcome;
@@ -163,7 +163,7 @@ fn member_name(alloc: Global, group: &Name, w: u32, incarnation: u64) -> Result<
 }
 
 // The UUID of a name.
-#[tactic(auto, unfolding(crate::specs::Looks::uuid_of))]
+#[tactic(auto, unfolding(cw_run::specs::Looks::uuid_of))]
 fn uuid_of(name: &[u8]) -> Uuid
     ensures { result ≡ uuid_of name.now }
 {

@@ -22,9 +22,9 @@ use Rattle.cw_types.specs.declared.logs.DiskName.{DiskName}
 use Rattle.cw_words.specs.declared.command.Command.{Command}
 use Rattle.cw_words.specs.declared.command.Command.TheVariants.{Drive}
 use Rattle.cw_words.specs.declared.command.Options.{Options}
-use Rattle.cw_cluster.specs.Ran.{Ran}
-use Rattle.cw_cluster.specs.Rules.{drive_rules, in_cluster}
-use Rattle.cw_cluster.specs.Run.{run}
+use Rattle.cw_run.specs.Ran.{Ran}
+use Rattle.cw_run.specs.Rules.{drive_rules, in_cluster}
+use Rattle.cw_run.specs.Run.{run}
 use Rattle.cw_connect.specs.Opening.{IsSetFor, IsOpenedFrom}
 use Rattle.cw_connect.specs.Outcomes.{Leaves, IsRun, IsRefusedFor}
 use Rattle.cw_connect.specs.Statuses.{status_of_end}

@@ -19,7 +19,7 @@ use Rattle.cw_words.specs.Asked.{command_of}
 use Rattle.cw_words.specs.declared.command.Command.{Command}
 use Rattle.cw_words.specs.declared.command.Command.TheVariants.{Drive, Audit}
 use Rattle.cw_words.specs.declared.command.Options.{Options}
-use Rattle.cw_cluster.specs.Run.{run}
+use Rattle.cw_run.specs.Run.{run}
 use Rattle.cw_connect.specs.Audited.{IsAudited}
 use Rattle.cw_connect.specs.Making.{AreMade, AreUnmade}
 use Rattle.cw_connect.specs.Opening.{IsSetFor, IsOpenedFrom}

@@ -12,7 +12,7 @@ use Rattle.cw_model.specs.State.{Cluster, Setting}
 use Rattle.cw_open.specs.Opened.{IsSetBy}
 use Rattle.cw_open.specs.Reopened.{DiskFiles, FilesHold, TellAll}
 use Rattle.cw_words.specs.declared.command.Options.{Options}
-use Rattle.cw_cluster.specs.Reaches.{HaveNames}
+use Rattle.cw_run.specs.Reaches.{HaveNames}
 
 -- the feeds that were loaded are those of the shelf, where it tells them, and the setting is by them and by the words
 pub record IsSetFor {H : Type 0} (S : shelf.Ghosts H) (options : Options) (on : H) (setting : Setting) : Type 0 where

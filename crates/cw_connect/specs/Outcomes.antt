@@ -15,9 +15,9 @@ use Rattle.cw_model.specs.State.{Setting}
 use Rattle.cw_open.specs.OpenedFrom.{DisksStay}
 use Rattle.cw_types.specs.declared.logs.DiskName.{DiskName}
 use Rattle.cw_words.specs.declared.command.Options.{Options}
+use Rattle.cw_run.specs.Ran.{Ran}
+use Rattle.cw_run.specs.Rules.{drive_rules}
 use Rattle.cw_cluster.specs.Driven.{IsLeft, IsLeftBroken}
-use Rattle.cw_cluster.specs.Ran.{Ran}
-use Rattle.cw_cluster.specs.Rules.{drive_rules}
 use Rattle.cw_connect.specs.Opening.{IsSetFor, IsOpenedFrom}
 use Rattle.cw_connect.specs.Statuses.{status_of_end}
 use Rattle.cw_connect.specs.declared.status.Status.{Status}

@@ -17,23 +17,23 @@ ghost use Rattle.cw_script.specs.Lines.{line_of};
 ghost use Rattle.cw_script.specs.declared.directive.Directive.{Directive};
 ghost use Rattle.cw_types.specs.declared.logs.DiskName.{DiskName};
 ghost use Rattle.cw_words.specs.Asked.{command_of};
-ghost use Rattle.cw_cluster.specs.Breaking.{IsInFlight};
-ghost use Rattle.cw_cluster.specs.Ran.{Ran};
-ghost use Rattle.cw_cluster.specs.Reaches.{HaveNames};
-ghost use Rattle.cw_cluster.specs.Rules.{drive_rules};
+ghost use Rattle.cw_run.specs.Flight.{IsInFlight};
+ghost use Rattle.cw_run.specs.Ran.{Ran};
+ghost use Rattle.cw_run.specs.Reaches.{HaveNames};
+ghost use Rattle.cw_run.specs.Rules.{drive_rules};
 ghost use Rattle.cw_connect.specs.Ended.{HasEnded};
 
 use crate::auditing::{Report, open_and_audit};
 use crate::driving::open_and_drive;
 use crate::status::Status;
-use cw_cluster::{
-    each_line_on_its_way_is_a_run, each_script_is_a_run, each_script_is_played_alike,
-    what_is_in_flight_is_reached, what_is_reached_is_safe,
-};
 use cw_disk::{Disk, Disks};
 use cw_io::{Outlet, Shelf, Sink, Source};
 use cw_laws::written_logs_open_again;
 use cw_open::files_open_one_way;
+use cw_run::{
+    each_line_on_its_way_is_a_run, each_script_is_a_run, each_script_is_played_alike,
+    what_is_in_flight_is_reached, what_is_reached_is_safe,
+};
 use cw_words::{Command, read_words};
 use std::alloc::Global;
 

@@ -21,7 +21,7 @@ use Rattle.cw_laws.proofs.Calls.{grows-journal}
 use Rattle.cw_laws.proofs.Grows.{grows-same, grows-trans}
 use Rattle.cw_laws.proofs.Sync.{live-within}
 use Rattle.cw_laws.proofs.Growth.{append_config-grows, set_offsets-grows}
-use Rattle.cw_ops.specs.Requests.{answers, written, seen_now}
+use Rattle.cw_edges.specs.Requests.{answers, written, seen_now}
 use Rattle.cw_world.specs.Logs.{LogsState}
 use Rattle.cw_world.specs.Receipts.{ReceiptState, numbered}
 use Rattle.cw_world.specs.World.{WorldState, RunsOut, Breaks, DoesOrWants}

@@ -43,7 +43,7 @@ use Rattle.cw_laws.proofs.KeptCalls.{configs-true, offsets-true}
 use Rattle.cw_laws.proofs.Proposed.{ready-leads}
 use Rattle.cw_laws.proofs.Sync.{live-within}
 use Rattle.cw_laws.proofs.Workers.{sound_at}
-use Rattle.cw_ops.specs.Requests.{seen_now, reply_now, would_succeed, behind_write, item_of, restarted, answers}
+use Rattle.cw_edges.specs.Requests.{seen_now, reply_now, would_succeed, behind_write, item_of, restarted, answers}
 use Rattle.cw_desk.specs.Keeping.{KeepsJournal}
 use Rattle.cw_desk.specs.Turns.{entry_in, entry_of}
 use Rattle.cw_herder.proofs.Asking.{by-deed, closed-answers, configs-unled, configs-fail, configs-written, offsets-unled, offsets-fail, offsets-written, sees-all}

@@ -14,7 +14,7 @@ use Rattle.cw_model.specs.EventsLeading.{append_config, set_offsets}
 use Rattle.cw_model.specs.Journal.{is_success}
 use Rattle.cw_model.specs.Lookups.{row_of}
 use Rattle.cw_model.specs.Ready.{ready}
-use Rattle.cw_ops.specs.Requests.{seen_now, reply_now, would_succeed, behind_write, writes, item_of, restarted, written, answers_by, answers}
+use Rattle.cw_edges.specs.Requests.{seen_now, reply_now, would_succeed, behind_write, writes, item_of, restarted, written, answers_by, answers}
 
 -- an event at a worker that lives
 opened : {A : Type 0} (o : Option (DiskName × ℕ)) (done : Answer A) (s : Cluster) → o ≡ None → unless_closed o done s ≡ done

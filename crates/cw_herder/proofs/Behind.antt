@@ -27,9 +27,9 @@ use Rattle.cw_model.specs.Lookups.{row_of, last_epoch}
 use Rattle.cw_model.specs.Ready.{ready}
 use Rattle.cw_model.specs.Reopening.{stored_of}
 use Rattle.cw_model.specs.Updates.{epoch_in, changes_row, without_lead, with_configs, with_entries, fits_configs, fits_entries, as_leader, stamped, next_config, appends_configs, appends_entries}
+use Rattle.cw_edges.specs.Requests.{answers, behind_write, reply_now, written}
 use Rattle.cw_ops.specs.declared.answering.Answers.{Answers}
 use Rattle.cw_ops.specs.Answering.{AreAnswers}
-use Rattle.cw_ops.specs.Requests.{answers, behind_write, reply_now, written}
 use Rattle.cw_world.specs.Logs.{LogsState, HaveSameOthers, KeepsOn, AddsTo, LeavesNow, IsApart, view_in, list_in, faults_in}
 use Rattle.cw_world.specs.World.{WorldState, DoesOrWants, RunsOut, Breaks, Acts}
 use Rattle.cw_world.proofs.Writing.{is-memory}

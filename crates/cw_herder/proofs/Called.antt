@@ -18,8 +18,8 @@ use Rattle.cw_model.specs.Answers.{Answer}
 use Rattle.cw_model.specs.EventsLeading.{append_config, set_offsets, MayAppendConfig, MaySetOffsets}
 use Rattle.cw_model.specs.Lookups.{row_of}
 use Rattle.cw_model.specs.Ready.{ready}
-use Rattle.cw_ops.specs.Requests.{seen_now, would_succeed, behind_write}
 use Rattle.cw_route.specs.declared.reply.Reply.{Reply}
+use Rattle.cw_edges.specs.Requests.{seen_now, would_succeed, behind_write}
 use Rattle.cw_herder.specs.declared.op.Op.{Op}
 use Rattle.cw_herder.specs.declared.op.Op.TheVariants as op
 use Rattle.cw_herder.specs.declared.op.OpDone.{OpDone}

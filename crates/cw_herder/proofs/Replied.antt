@@ -13,10 +13,10 @@ use Rattle.cw_model.specs.Answers.{Answer, answered}
 use Rattle.cw_model.specs.EventsItems.{restart}
 use Rattle.cw_model.specs.Journal.{is_success}
 use Rattle.cw_model.specs.Lookups.{row_of}
+use Rattle.cw_edges.specs.Requests.{reply_now, item_of, answers}
 use Rattle.cw_ops.specs.declared.answering.Answering.{Answering}
 use Rattle.cw_ops.specs.declared.answering.Answering.TheVariants.{Refused}
 use Rattle.cw_ops.specs.Answering.{IsRefused, IsAnswering}
-use Rattle.cw_ops.specs.Requests.{reply_now, item_of, answers}
 use Rattle.cw_world.specs.World.{WorldState, Does, Acts}
 use Rattle.cw_world.proofs.Acting.{does-acts, wants-acts}
 use Rattle.cw_herder.proofs.Asking.{restart-done, restart-ok}

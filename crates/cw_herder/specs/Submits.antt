@@ -18,8 +18,8 @@ use Rattle.cw_model.specs.State.{Setting, Cluster}
 use Rattle.cw_model.specs.Answers.{Answer, answered}
 use Rattle.cw_model.specs.EventsItems.{read_config}
 use Rattle.cw_model.specs.Reopening.{stored_of}
+use Rattle.cw_edges.specs.Requests.{HasWritten, answers, behind_write, written}
 use Rattle.cw_ops.specs.declared.answering.Answers.{Answers}
-use Rattle.cw_ops.specs.Requests.{HasWritten, answers, behind_write, written}
 use Rattle.cw_world.specs.Logs.{HaveSameOthers, KeepsOn, AddsTo, view_in, list_in, faults_in}
 use Rattle.cw_world.specs.World.{WorldState, Acts}
 use Rattle.cw_herder.specs.declared.op.Op.{Op}

@@ -5,7 +5,7 @@ ghost use Rattle.cw_model.specs.Journal.{is_success};
 ghost use Rattle.cw_model.specs.Lookups.{row_of};
 ghost use Rattle.cw_route.specs.declared.call.Call.TheVariants.{Restart, RestartTask};
 ghost use Rattle.cw_rest.specs.Calls.{restarts, deed_of};
-ghost use Rattle.cw_ops.specs.Requests.{answers, reply_now, item_of};
+ghost use Rattle.cw_edges.specs.Requests.{answers, reply_now, item_of};
 ghost use Rattle.cw_world.specs.World.{Acts};
 
 use cw_disk::Disk;

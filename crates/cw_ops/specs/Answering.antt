@@ -5,10 +5,10 @@ use Rattle.cw_route.specs.declared.call.Call.{Call}
 use Rattle.cw_route.specs.declared.reply.Reply.{Reply}
 use Rattle.cw_rest.specs.Messages.{full_reply, rebalancing}
 use Rattle.cw_model.specs.State.{Setting, Cluster}
+use Rattle.cw_edges.specs.Requests.{reply_now, would_succeed}
 use Rattle.cw_ops.specs.declared.answering.Answers.{Answers}
 use Rattle.cw_ops.specs.declared.answering.Answering.{Answering}
 use Rattle.cw_ops.specs.declared.answering.Answering.TheVariants.{Refused, Writes}
-use Rattle.cw_ops.specs.Requests.{reply_now, would_succeed}
 
 -- it is refused
 pub record IsRefused (setting : Setting) (w : ℕ) (call : Call) (s : Cluster) (reply : Reply) : Type 0 where

@@ -2,8 +2,8 @@
 ghost use Rattle.std.specs.Prelude.{◌≡◌, ◌<◌, length, IfOk};
 ghost use Rattle.cw_model.specs.Journal.{is_success};
 ghost use Rattle.cw_rest.specs.Replies.{reply_to};
+ghost use Rattle.cw_edges.specs.Requests.{seen_now, reply_now, would_succeed};
 ghost use Rattle.cw_ops.specs.Answering.{IsAnswering};
-ghost use Rattle.cw_ops.specs.Requests.{seen_now, reply_now, would_succeed};
 
 use crate::seeing::{is_ready, seen_now};
 use cw_reply::{full_reply, rebalancing, reply};

@@ -6,9 +6,9 @@ ghost use Rattle.cw_model.specs.Journal.{is_ready};
 ghost use Rattle.cw_model.specs.Lookups.{row_of, last_epoch};
 ghost use Rattle.cw_model.specs.Updates.{epoch_in};
 ghost use Rattle.cw_rest.specs.Calls.{deed_of, is_reading};
+ghost use Rattle.cw_edges.specs.Requests.{seen_now};
 ghost use Rattle.cw_rows.specs.Statuses.{plain};
 ghost use Rattle.cw_reply.specs.View.{seen_in};
-ghost use Rattle.cw_ops.specs.Requests.{seen_now};
 
 use cw_config::ConfigState;
 use cw_reply::View;

@@ -18,11 +18,12 @@ use Rattle.cw_model.specs.State.{Setting, Cluster}
 use Rattle.cw_model.specs.Steps.{step, tells, polls_sink, polls_source, waits}
 use Rattle.cw_model.specs.Tasks.{is_sink, taking}
 use Rattle.cw_model.specs.Updates.{changes_instance}
+use Rattle.cw_edges.specs.Handing.{file_of, hands_out, is_polling, with_delivery}
+use Rattle.cw_edges.specs.Poured.{poured, IsPouredInPart}
 use Rattle.cw_rows.specs.Kept.{open_test}
 use Rattle.cw_sinktask.specs.declared.delivery.Delivery.{Delivery as FileDelivery}
-use Rattle.cw_sinktask.specs.Gathered.{file_of, into_file}
-use Rattle.cw_sinktask.specs.Poured.{poured, IsPouredInPart}
-use Rattle.cw_sinktask.specs.Sinks.{hands_out, is_polling, with_delivery, IsCutOff}
+use Rattle.cw_sinktask.specs.Gathered.{into_file}
+use Rattle.cw_sinktask.specs.Sinks.{IsCutOff}
 use Rattle.cw_sinktask.proofs.Turns.{gathered-due}
 use Rattle.cw_tasks.proofs.Stepped.{step-does}
 

@@ -5,8 +5,9 @@ use Rattle.cw_model.specs.declared.instance.Instance.{Instance}
 use Rattle.cw_model.specs.EventsSinks.{topic_in}
 use Rattle.cw_model.specs.Polls.{delivery_at, most_records, records_from}
 use Rattle.cw_model.specs.Tasks.{part_at, position_at}
+use Rattle.cw_edges.specs.Handing.{file_of}
 use Rattle.cw_sinktask.specs.declared.delivery.Delivery.{Delivery}
-use Rattle.cw_sinktask.specs.Gathered.{file_of, into_file, values_of, place_behind}
+use Rattle.cw_sinktask.specs.Gathered.{into_file, values_of, place_behind}
 
 module _ (own : Instance) (log : List DataEntry) (turn : ℕ) where
   abbrev its_topic : List ℕ

@@ -3,7 +3,7 @@ use Rattle.std.proofs.Common.{◌≡◌, ℕ, suc, ◌+◌, ◌<◌, List, [], �
 use Rattle.std.proofs.lemmas.List.Sums.{fold_push}
 use Rattle.cw_io.specs.Shelf.{Files}
 use Rattle.cw_io.specs.Outlet.{appended, line_bytes, IsAppendedInPart}
-use Rattle.cw_sinktask.specs.Poured.{poured, IsPouredInPart}
+use Rattle.cw_edges.specs.Poured.{poured, IsPouredInPart}
 
 module _ (file : List ℕ) (lines : List (List ℕ)) (k : ℕ) (line : List ℕ) (within : k < length lines) (is : line ≡ get_or lines k line) where
   -- one line more

@@ -1,17 +1,10 @@
 -- What a sink's task hands out, with the file that it goes to (Kafka Connect's FileStreamSinkTask writes one file).
-use Rattle.std.specs.Prelude.{ℕ, ◌+◌, List, [], map, Option, IsSome, unwrap_or, option_and_then}
+use Rattle.std.specs.Prelude.{ℕ, ◌+◌, List, map, IsSome}
 use Rattle.std.specs.List.{fold}
 use Rattle.cw_model.specs.declared.instance.Instance.{Instance}
 use Rattle.cw_model.specs.Polls.{Delivery}
+use Rattle.cw_edges.specs.Handing.{file_in}
 use Rattle.cw_sinktask.specs.declared.delivery.Delivery.{Delivery as FileDelivery}
-
--- the file that a sink's task writes, where it is one of a sink
-abbrev pub file_in : Instance → Option (List ℕ)
-file_in i = option_and_then (λ task. task.file) i.task
-
--- the file that it writes
-abbrev pub file_of : Instance → List ℕ
-file_of i = unwrap_or (file_in i) []
 
 -- it has a file
 abbrev pub HasFile : Instance → Type 0

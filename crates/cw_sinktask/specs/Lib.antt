@@ -1,3 +1,2 @@
-pub mod Poured
 pub mod Gathered
 pub mod Sinks

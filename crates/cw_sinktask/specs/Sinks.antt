@@ -1,47 +1,20 @@
 -- What a step of a sink's task does to the world and to the outlet: where it polls, it puts what it gathers into its
 -- file, and then the world knows that (Kafka Connect's WorkerSinkTask hands out before it commits an offset).
-use Rattle.std.specs.Prelude.{◌≡◌, ◌≤◌, ℕ, Bool, true, false, List, Option, Some, None, is_some, Result, Ok, Err}
-use Rattle.std.specs.Prelude.{if◌then◌else◌}
+use Rattle.std.specs.Prelude.{◌≡◌, ◌≤◌, ℕ, Some, is_some, Result, Ok, Err}
 use Rattle.cw_types.specs.Faults.{Rose}
 use Rattle.cw_io.specs.declared.outlet.Outlet as outlet
 use Rattle.cw_io.specs.Shelf.{Files}
 use Rattle.cw_disk.specs.declared.device.Disk.{Ghosts}
 use Rattle.cw_model.specs.declared.did.Did.{Did}
-use Rattle.cw_model.specs.declared.instance.InstancePhase.{InstancePhase}
-use Rattle.cw_model.specs.declared.instance.InstancePhase.TheVariants as phase
 use Rattle.cw_model.specs.Lookups.{instance_of}
-use Rattle.cw_model.specs.Polls.{Delivery, gathered}
+use Rattle.cw_model.specs.Polls.{Delivery}
 use Rattle.cw_model.specs.State.{Cluster}
-use Rattle.cw_model.specs.Steps.{step, waits}
+use Rattle.cw_model.specs.Steps.{step}
+use Rattle.cw_edges.specs.Handing.{file_of, hands_out, with_delivery}
+use Rattle.cw_edges.specs.Poured.{IsPouredInPart}
 use Rattle.cw_world.specs.World.{WorldState, Acts}
 use Rattle.cw_sinktask.specs.declared.fault.SinkFault.{SinkFault}
 use Rattle.cw_sinktask.specs.declared.fault.SinkFault.TheVariants.{World, Outlet}
-use Rattle.cw_sinktask.specs.Gathered.{file_of}
-use Rattle.cw_sinktask.specs.Poured.{poured, IsPouredInPart}
-
--- whether an instance polls next
-abbrev pub is_polling : InstancePhase → Bool
-is_polling phase.Connector = false
-is_polling phase.New = false
-is_polling phase.Inited = false
-is_polling phase.Verified = false
-is_polling phase.Polling = true
-is_polling phase.Produced = false
-is_polling phase.Offered = false
-is_polling phase.Delivered = false
-is_polling phase.Failed = false
-is_polling phase.Ended = false
-
--- what a sink's task hands out at its next step, where it does
-abbrev pub hands_out : ℕ → Cluster → Option Delivery
-hands_out i s =
-    if waits (instance_of i s) s then None else
-    if is_polling (instance_of i s).phase then gathered (instance_of i s) s.batches else None
-
--- files with what is handed out at the end of the one of this name
-abbrev pub with_delivery : (file : List ℕ) → Option Delivery → Files → Files
-with_delivery file None files = files
-with_delivery file (Some d) files = poured file d.lines files
 
 -- a first part of what is handed out was put into its file
 pub record IsCutOff (i : ℕ) (s : Cluster) (held left : Files) : Type 0 where

@@ -8,8 +8,9 @@ ghost use Rattle.cw_model.specs.Lookups.{instance_of};
 ghost use Rattle.cw_model.specs.Polls.{gathered};
 ghost use Rattle.cw_model.specs.Steps.{step, waits};
 ghost use Rattle.cw_model.specs.Tasks.{is_sink};
+ghost use Rattle.cw_edges.specs.Handing.{file_of};
 ghost use Rattle.cw_world.specs.World.{Does};
-ghost use Rattle.cw_sinktask.specs.Gathered.{file_of, into_file};
+ghost use Rattle.cw_sinktask.specs.Gathered.{into_file};
 ghost use Rattle.cw_sinktask.specs.Sinks.{Sinks};
 
 use crate::delivery::Delivery;

@@ -7,8 +7,9 @@ ghost use Rattle.cw_model.specs.EventsSinks.{topic_in};
 ghost use Rattle.cw_model.specs.Lookups.{instance_of};
 ghost use Rattle.cw_model.specs.Polls.{delivery_at, gathered};
 ghost use Rattle.cw_model.specs.Tasks.{parts_of, is_sink};
+ghost use Rattle.cw_edges.specs.Handing.{file_of};
 ghost use Rattle.cw_ticks.specs.Polled.{IsTopic};
-ghost use Rattle.cw_sinktask.specs.Gathered.{file_of, into_file, HasFile};
+ghost use Rattle.cw_sinktask.specs.Gathered.{into_file, HasFile};
 
 use crate::delivery::Delivery;
 use crate::taking::take_from;

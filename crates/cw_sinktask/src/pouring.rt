@@ -2,7 +2,7 @@
 ghost use Rattle.std.specs.Prelude.{◌≡◌, ◌≤◌, Some, is_some, OnOk, OnErr};
 ghost use Rattle.cw_types.specs.Faults.{Rose};
 ghost use Rattle.cw_io.specs.Shelf.{Files};
-ghost use Rattle.cw_sinktask.specs.Poured.{poured, IsPouredInPart};
+ghost use Rattle.cw_edges.specs.Poured.{poured, IsPouredInPart};
 
 use crate::delivery::Delivery;
 use cw_io::{Failed, Outlet};

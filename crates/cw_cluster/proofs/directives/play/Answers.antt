@@ -1,6 +1,6 @@
 use Rattle.std.proofs.Common.{◌≡◌, ℕ, List, refl, ap, subst, ◌∙◌, sym}
 use Rattle.cw_model.specs.State.{Setting}
-use Rattle.cw_cluster.specs.Answers.{text_of}
+use Rattle.cw_run.specs.Answers.{text_of}
 use Rattle.cw_cluster.specs.Breaking.{ran_with}
 use Rattle.cw_cluster.specs.Outcomes.{outcome_words}
 use Rattle.cw_cluster.specs.Saying.{Says}

@@ -4,12 +4,12 @@ use Rattle.cw_lines.specs.Due.{Drives}
 use Rattle.cw_lines.specs.Players.{IsAt, player_of}
 use Rattle.cw_model.specs.State.{Setting}
 use Rattle.cw_world.specs.World.{WorldState}
+use Rattle.cw_run.specs.Ran.{Ran}
+use Rattle.cw_run.specs.Rules.{drive_rules}
 use Rattle.cw_cluster.specs.declared.running.Running.{Running}
 use Rattle.cw_cluster.specs.Breaking.{IsAlive, ran_of}
 use Rattle.cw_cluster.specs.Driven.{IsLeft, IsLeftBroken}
 use Rattle.cw_cluster.specs.Lined.{IsBrokenInLine, playing_of}
-use Rattle.cw_cluster.specs.Ran.{Ran}
-use Rattle.cw_cluster.specs.Rules.{drive_rules}
 use Rattle.cw_cluster.proofs.Drives.{drives-to}
 use Rattle.cw_cluster.proofs.driving.drive_begun.Goals as goal
 

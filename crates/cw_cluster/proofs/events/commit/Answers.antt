@@ -2,10 +2,10 @@ use Rattle.std.proofs.Common.{ℕ, List, Ok, Err, sym, ap, subst, ◌∙◌}
 use Rattle.cw_script.specs.declared.directive.Directive.TheVariants as directive
 use Rattle.cw_types.specs.declared.logs.LogName.TheVariants.{Txn}
 use Rattle.cw_model.specs.EventsRaw.{MayRawCommit, raw_commit}
+use Rattle.cw_run.proofs.LineRuns.{pairs-may}
 use Rattle.cw_cluster.specs.declared.outcome.Outcome.TheVariants as came
 use Rattle.cw_cluster.specs.Events.{came_to, comes_to, event_of}
 use Rattle.cw_cluster.proofs.Coming.{writes-comes}
-use Rattle.cw_cluster.proofs.LineRuns.{pairs-may}
 use Rattle.cw_cluster.proofs.events.commit.Goals as goal
 
 pub raw_commit-requires : goal.raw_commit-requires

@@ -1,5 +1,5 @@
 use Rattle.std.proofs.Common.{◌≡◌, map, take}
-use Rattle.cw_cluster.specs.Answers.{pair_of}
+use Rattle.cw_run.specs.Answers.{pair_of}
 use Rattle.cw_cluster.proofs.events.list_of.Given as goal
 
 abbrev pub invariant-loop-pair : goal.invariant-loop-pair

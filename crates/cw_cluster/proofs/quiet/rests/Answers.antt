@@ -2,9 +2,9 @@ use Rattle.std.proofs.Common.{◌≡◌, ℕ, Bool, true, false, IfOk, if◌then
 use Rattle.cw_model.specs.Lookups.{instance_of}
 use Rattle.cw_model.specs.State.{Setting, Cluster}
 use Rattle.cw_model.specs.Steps.{waits}
-use Rattle.cw_cluster.specs.Resting.{rests_in}
+use Rattle.cw_run.specs.Resting.{rests_in}
+use Rattle.cw_run.proofs.Rested.{rests-is}
 use Rattle.cw_cluster.specs.Turning.{rests_at}
-use Rattle.cw_cluster.proofs.Rested.{rests-is}
 use Rattle.cw_cluster.proofs.quiet.rests.Goals as goal
 
 -- one that isn't paused rests by its phase

@@ -1,7 +1,7 @@
 use Rattle.std.proofs.Common.{ℕ, subst}
 use Rattle.cw_route.specs.declared.call.Call.{Call}
+use Rattle.cw_edges.specs.Requests.{call_of}
 use Rattle.cw_herder.specs.Submits.{Submits}
-use Rattle.cw_cluster.specs.Requests.{call_of}
 use Rattle.cw_cluster.proofs.Requested.{not-read}
 use Rattle.cw_cluster.proofs.requests.ask.Goals as goal
 

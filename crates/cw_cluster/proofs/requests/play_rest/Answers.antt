@@ -3,12 +3,12 @@ use Rattle.std.proofs.lemmas.List.{append-nil}
 use Rattle.cw_route.specs.declared.reply.Reply.{Reply}
 use Rattle.cw_model.specs.declared.fault.WorldFault.{WorldFault}
 use Rattle.cw_model.specs.State.{Setting}
+use Rattle.cw_edges.specs.Requests.{call_of}
 use Rattle.cw_herder.specs.Submits.{Submits}
+use Rattle.cw_run.specs.Answers.{text_of}
+use Rattle.cw_run.specs.Flight.{failed_line}
 use Rattle.cw_cluster.specs.declared.outcome.Outcome.TheVariants as came
-use Rattle.cw_cluster.specs.Answers.{text_of}
-use Rattle.cw_cluster.specs.Breaking.{failed_line}
 use Rattle.cw_cluster.specs.Outcomes.{outcome_words}
-use Rattle.cw_cluster.specs.Requests.{call_of}
 use Rattle.cw_cluster.specs.Saying.{Says}
 use Rattle.cw_cluster.proofs.Requested.{submits-failed, submits-played, submits-setting}
 use Rattle.cw_cluster.proofs.StepPlayed.{not-outlet}

@@ -2,7 +2,7 @@ use Rattle.std.proofs.Common.{Ok, Err, subst, ◌∙◌}
 use Rattle.std.proofs.lemmas.Result.{err_from_is_err_and}
 use Rattle.cw_lines.proofs.Counts.{fell_then}
 use Rattle.cw_model.specs.State.{Setting}
-use Rattle.cw_cluster.specs.Settling.{round}
+use Rattle.cw_run.specs.Settling.{round}
 use Rattle.cw_cluster.specs.Turning.{TakesTurns}
 use Rattle.cw_cluster.proofs.Rounds.{settles-next, settles-done, settles-stop}
 use Rattle.cw_cluster.proofs.settling.settle.Goals as goal

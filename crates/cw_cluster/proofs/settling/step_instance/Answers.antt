@@ -1,9 +1,9 @@
 use Rattle.std.proofs.Common.{◌≡◌, true, refl, inr, rules}
 use Rattle.std.proofs.lemmas.Result.{err_from_is_err_and}
-use Rattle.cw_cluster.specs.Ran.{ran_step, IsCutIn}
-use Rattle.cw_cluster.specs.Settling.{step_moves, may_step}
+use Rattle.cw_run.specs.Ran.{ran_step, IsCutIn}
+use Rattle.cw_run.specs.Settling.{step_moves, may_step}
+use Rattle.cw_run.proofs.Deliveries.{step-still-ran}
 use Rattle.cw_cluster.specs.Turning.{steps_of}
-use Rattle.cw_cluster.proofs.Deliveries.{step-still-ran}
 use Rattle.cw_cluster.proofs.Turns.{leads-unmoved, stops-turn, stage-cut}
 use Rattle.cw_cluster.proofs.settling.step_instance.Goals as goal
 

@@ -3,7 +3,7 @@ use Rattle.std.specs.List.{range_with_len}
 use Rattle.std.proofs.lemmas.Result.{err_from_is_err_and}
 use Rattle.cw_lines.proofs.Counts.{fell_then}
 use Rattle.cw_model.specs.State.{Setting}
-use Rattle.cw_cluster.specs.Settling.{all_step, steps}
+use Rattle.cw_run.specs.Settling.{all_step, steps}
 use Rattle.cw_cluster.specs.Turning.{TakesTurns, steps_of}
 use Rattle.cw_cluster.proofs.Turns.{each-next, each-stops, idle-step_each}
 use Rattle.cw_cluster.proofs.settling.step_instances.Goals as goal

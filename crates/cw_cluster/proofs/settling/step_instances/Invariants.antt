@@ -1,7 +1,7 @@
 use Rattle.std.proofs.Common.{◌≡◌, ◌-◌, length}
 use Rattle.std.specs.List.{range_with_len}
 use Rattle.cw_lines.specs.Players.{NoneFell}
-use Rattle.cw_cluster.specs.Settling.{all_step}
+use Rattle.cw_run.specs.Settling.{all_step}
 use Rattle.cw_cluster.specs.Turning.{LeadsTo, step_each}
 use Rattle.cw_cluster.proofs.settling.step_instances.Given as goal
 

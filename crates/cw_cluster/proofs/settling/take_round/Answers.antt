@@ -1,7 +1,7 @@
 use Rattle.std.proofs.Common.{refl, subst}
 use Rattle.std.proofs.lemmas.Result.{err_from_is_err_and}
 use Rattle.cw_model.specs.State.{Setting}
-use Rattle.cw_cluster.specs.Settling.{all_tick, all_step, round}
+use Rattle.cw_run.specs.Settling.{all_tick, all_step, round}
 use Rattle.cw_cluster.specs.Turning.{TakesTurns, none_left}
 use Rattle.cw_cluster.proofs.Turns.{leads-none, leads-behind, stops-then, takes-then, idle-none, idle-all_step}
 use Rattle.cw_cluster.proofs.settling.take_round.Goals as goal

@@ -1,10 +1,10 @@
 use Rattle.std.proofs.Common.{◌≡◌, true, refl, inl, rules}
 use Rattle.std.proofs.lemmas.Result.{err_from_is_err_and}
 use Rattle.cw_model.specs.Lookups.{row_of}
-use Rattle.cw_cluster.specs.Ran.{Ran, ran_tick}
-use Rattle.cw_cluster.specs.Settling.{tick_moves}
+use Rattle.cw_run.specs.Ran.{Ran, ran_tick}
+use Rattle.cw_run.specs.Settling.{tick_moves}
+use Rattle.cw_run.proofs.Deliveries.{tick-still-ran}
 use Rattle.cw_cluster.specs.Turning.{ticks_of}
-use Rattle.cw_cluster.proofs.Deliveries.{tick-still-ran}
 use Rattle.cw_cluster.proofs.Turns.{leads-unmoved, stops-turn}
 use Rattle.cw_cluster.proofs.settling.tick_worker.Goals as goal
 

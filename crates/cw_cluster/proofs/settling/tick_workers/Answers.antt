@@ -3,7 +3,7 @@ use Rattle.std.specs.List.{range_with_len}
 use Rattle.std.proofs.lemmas.Result.{err_from_is_err_and}
 use Rattle.cw_lines.proofs.Counts.{fell_then}
 use Rattle.cw_model.specs.State.{Setting}
-use Rattle.cw_cluster.specs.Settling.{all_tick, ticks}
+use Rattle.cw_run.specs.Settling.{all_tick, ticks}
 use Rattle.cw_cluster.specs.Turning.{moved_to, IsStage, IsCutStage, Stops, ticks_of}
 use Rattle.cw_cluster.proofs.Turns.{each-next, each-stops, idle-tick_each}
 use Rattle.cw_cluster.proofs.settling.tick_workers.Goals as goal

@@ -1,7 +1,7 @@
 use Rattle.std.proofs.Common.{◌≡◌, ◌-◌, length}
 use Rattle.std.specs.List.{range_with_len}
 use Rattle.cw_lines.specs.Players.{NoneFell}
-use Rattle.cw_cluster.specs.Settling.{all_tick}
+use Rattle.cw_run.specs.Settling.{all_tick}
 use Rattle.cw_cluster.specs.Turning.{LeadsTo, tick_each}
 use Rattle.cw_cluster.proofs.settling.tick_workers.Given as goal
 

@@ -2,8 +2,8 @@ use Rattle.std.proofs.Common.{◌≡◌, List, ℕ, Result, Ok, Err, ap, subst, 
 use Rattle.cw_model.specs.declared.did.Did.{Did}
 use Rattle.cw_model.specs.State.{Setting}
 use Rattle.cw_sinktask.specs.declared.fault.SinkFault.{SinkFault}
+use Rattle.cw_run.specs.Answers.{text_of}
 use Rattle.cw_cluster.specs.declared.outcome.Outcome.TheVariants as came
-use Rattle.cw_cluster.specs.Answers.{text_of}
 use Rattle.cw_cluster.specs.Outcomes.{outcome_words}
 use Rattle.cw_cluster.specs.Saying.{Says}
 use Rattle.cw_cluster.specs.Stepping.{Steps}

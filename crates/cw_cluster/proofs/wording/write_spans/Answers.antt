@@ -1,5 +1,5 @@
 use Rattle.std.proofs.Common.{◌∙◌}
-use Rattle.cw_cluster.specs.Answers.{span_words}
+use Rattle.cw_run.specs.Answers.{span_words}
 use Rattle.cw_cluster.specs.Outcomes.{spaced}
 use Rattle.cw_cluster.proofs.Spaces.{all-listed, listed-words}
 use Rattle.cw_cluster.proofs.wording.write_spans.Goals as goal

@@ -1,6 +1,6 @@
 use Rattle.std.proofs.Common.{◌≡◌, ◌++◌, take}
 use Rattle.std.specs.List.{flat_map}
-use Rattle.cw_cluster.specs.Answers.{span_words}
+use Rattle.cw_run.specs.Answers.{span_words}
 use Rattle.cw_cluster.specs.Outcomes.{spaced}
 use Rattle.cw_cluster.proofs.wording.write_spans.Given as goal
 

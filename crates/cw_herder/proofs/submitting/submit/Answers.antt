@@ -3,7 +3,7 @@ use Rattle.cw_model.specs.State.{Cluster}
 use Rattle.cw_model.specs.declared.row.Row.{Row}
 use Rattle.cw_model.specs.declared.fault.WorldFault.TheVariants.{Closed, Dead}
 use Rattle.cw_model.specs.Lookups.{row_of}
-use Rattle.cw_ops.specs.Requests.{answers}
+use Rattle.cw_edges.specs.Requests.{answers}
 use Rattle.cw_herder.proofs.Asking.{closed-answers, dead-answers}
 use Rattle.cw_herder.proofs.Replied.{refused-is}
 use Rattle.cw_herder.proofs.submitting.submit.Goals as goal

@@ -7,8 +7,8 @@ use Rattle.cw_rest.specs.Calls.{Deed, is_reading}
 use Rattle.cw_rest.specs.Replies.{values_of}
 use Rattle.cw_model.specs.State.{Setting}
 use Rattle.cw_model.specs.EventsLeading.{MayAppendConfig}
+use Rattle.cw_edges.specs.Requests.{seen_now, answers}
 use Rattle.cw_ops.specs.Answering.{AreAnswers}
-use Rattle.cw_ops.specs.Requests.{seen_now, answers}
 use Rattle.cw_herder.specs.Submits.{configs_op}
 use Rattle.cw_herder.proofs.Asking.{sees-all}
 use Rattle.cw_herder.proofs.Called.{configs-op, configs-op-write, configs-op-log}

@@ -1,7 +1,7 @@
 use Rattle.std.proofs.Common.{Result, Ok, Err, inl, sym, subst}
 use Rattle.cw_route.specs.declared.reply.Reply.{Reply}
 use Rattle.cw_model.specs.declared.fault.WorldFault.{WorldFault}
-use Rattle.cw_ops.specs.Requests.{answers}
+use Rattle.cw_edges.specs.Requests.{answers}
 use Rattle.cw_herder.proofs.Named.{leader-there}
 use Rattle.cw_world.specs.World.{Acts}
 use Rattle.cw_herder.specs.declared.op.OpDone.{OpDone}

@@ -3,8 +3,8 @@ use Rattle.cw_rest.specs.Calls.{Deed, is_reading}
 use Rattle.cw_rest.specs.Replies.{offsets_of, connector_set}
 use Rattle.cw_reply.specs.View.{seen_in}
 use Rattle.cw_model.specs.EventsLeading.{MaySetOffsets}
+use Rattle.cw_edges.specs.Requests.{seen_now, answers}
 use Rattle.cw_ops.specs.Answering.{AreAnswers}
-use Rattle.cw_ops.specs.Requests.{seen_now, answers}
 use Rattle.cw_herder.specs.declared.op.Op.{Op}
 use Rattle.cw_herder.specs.Operations.{op_event}
 use Rattle.cw_herder.specs.Submits.{IsOpOf, IsWriteTo, log_of}

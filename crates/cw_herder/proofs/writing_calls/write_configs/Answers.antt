@@ -1,8 +1,8 @@
 use Rattle.std.proofs.Common.{◌≡◌, ◌∙◌, Some, inl, sym, ap}
 use Rattle.cw_types.specs.declared.logs.LogName.TheVariants.{Config}
 use Rattle.cw_model.specs.Ready.{ready}
+use Rattle.cw_edges.specs.Requests.{answers, reply_now}
 use Rattle.cw_ops.specs.Answering.{IsRefused}
-use Rattle.cw_ops.specs.Requests.{answers, reply_now}
 use Rattle.cw_herder.proofs.Asking.{configs-fail}
 use Rattle.cw_herder.proofs.Replied.{unmoved, wanting, refused-over, replied}
 use Rattle.cw_herder.proofs.writing_calls.write_configs.Goals as goal

@@ -7,8 +7,8 @@ use Rattle.cw_model.specs.Lookups.{instance_of}
 use Rattle.cw_model.specs.Polls.{gathered}
 use Rattle.cw_model.specs.State.{Cluster}
 use Rattle.cw_model.specs.Steps.{step, tells}
+use Rattle.cw_edges.specs.Handing.{file_of}
 use Rattle.cw_sinktask.specs.declared.delivery.Delivery.{Delivery}
-use Rattle.cw_sinktask.specs.Gathered.{file_of}
 use Rattle.cw_sinktask.proofs.Delivered.{into, may, delivered, step-delivers, is-delivered, not-refused}
 use Rattle.cw_sinktask.proofs.delivering.deliver.Goals as goal
 

@@ -1,7 +1,7 @@
 use Rattle.std.proofs.Common.{refl}
 use Rattle.cw_model.specs.Lookups.{instance_of}
 use Rattle.cw_model.specs.Polls.{gathered}
-use Rattle.cw_sinktask.specs.Gathered.{file_of}
+use Rattle.cw_edges.specs.Handing.{file_of}
 use Rattle.cw_sinktask.proofs.Delivered.{into, cut-off}
 use Rattle.cw_sinktask.proofs.delivering.hand_out.Goals as goal
 

@@ -3,7 +3,7 @@ use Rattle.cw_model.specs.declared.did.Did.TheVariants as did
 use Rattle.cw_model.specs.Lookups.{instance_of}
 use Rattle.cw_model.specs.Polls.{gathered}
 use Rattle.cw_model.specs.Steps.{step}
-use Rattle.cw_sinktask.specs.Gathered.{file_of}
+use Rattle.cw_edges.specs.Handing.{file_of}
 use Rattle.cw_sinktask.proofs.Delivered.{into-none, at-end, nothing-left}
 use Rattle.cw_tasks.proofs.Told.{idle, out-of-memory}
 use Rattle.cw_sinktask.proofs.delivering.poll.Goals as goal

@@ -4,8 +4,9 @@ use Rattle.cw_model.specs.declared.instance.Instance.{Instance}
 use Rattle.cw_model.specs.Lookups.{instance_of}
 use Rattle.cw_model.specs.Polls.{gathered}
 use Rattle.cw_model.specs.State.{Cluster}
+use Rattle.cw_edges.specs.Handing.{file_of}
 use Rattle.cw_sinktask.specs.declared.delivery.Delivery.{Delivery}
-use Rattle.cw_sinktask.specs.Gathered.{file_of, into_file}
+use Rattle.cw_sinktask.specs.Gathered.{into_file}
 use Rattle.cw_sinktask.proofs.SinkTasks.{IsSinkTask, sink-task}
 use Rattle.cw_sinktask.proofs.gathering.gather.Goals as goal
 

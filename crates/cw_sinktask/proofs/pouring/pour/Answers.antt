@@ -1,6 +1,6 @@
 use Rattle.std.proofs.Common.{◌≡◌, ◌<◌, ℕ, List, length, get_or, Result, Ok, Err, OnErr, take, subst}
 use Rattle.cw_io.specs.Outlet.{IsAppendedInPart, line_bytes}
-use Rattle.cw_sinktask.specs.Poured.{poured}
+use Rattle.cw_edges.specs.Poured.{poured}
 use Rattle.cw_sinktask.proofs.Poured.{in-part}
 use Rattle.cw_sinktask.proofs.pouring.pour.Goals as goal
 

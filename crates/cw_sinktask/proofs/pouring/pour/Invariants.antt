@@ -1,6 +1,6 @@
 use Rattle.std.proofs.Common.{◌≡◌, ◌≤◌, Some, is_some, take}
 use Rattle.cw_io.specs.Shelf.{Files}
-use Rattle.cw_sinktask.specs.Poured.{poured}
+use Rattle.cw_edges.specs.Poured.{poured}
 use Rattle.cw_sinktask.proofs.pouring.pour.Given as goal
 
 -- the lines so far are in the file

@@ -1,5 +1,5 @@
 use Rattle.std.proofs.Common.{◌≡◌, Some, None, sym, ap, ◌∙◌}
-use Rattle.cw_cluster.specs.Run.{missing}
+use Rattle.cw_run.specs.Run.{missing}
 use Rattle.cw_cluster.proofs.Lined.{missing-said, over-said}
 use Rattle.cw_cluster.proofs.player.Player.play.Goals as goal
 

@@ -1,5 +1,0 @@
-use Rattle.cw_cluster.proofs.LineRuns.{line-runs}
-use Rattle.cw_cluster.proofs.laws.each_line_is_a_run.Goals as goal
-
-pub returns : goal.returns
-returns c = λ setting number line s feeds f. line-runs setting feeds number line s f

@@ -1,0 +1,13 @@
+pub mod Directives
+pub mod Answers
+pub mod Deliveries
+pub mod Ran
+pub mod Settling
+pub mod Resting
+pub mod Looks
+pub mod Run
+pub mod Amid
+pub mod Flight
+pub mod Rules
+pub mod Reaches
+pub mod Scripts
