@@ -4,7 +4,8 @@ use Rattle.std.specs.Prelude.{ℕ, List, [], ◌∷◌, ◌++◌, map, Option, S
 use Rattle.std.specs.List.{flat_map}
 use Rattle.uuid.specs.Text.{lower, hyphenated_text}
 use Rattle.cw_model.specs.TickText.{item_text}
-use Rattle.cw_run.specs.Answers.{epoch_words, committed_words, worker_words, tick_words, step_words, compacted_words, reply_words}
+use Rattle.cw_run.specs.Answers.{epoch_words, committed_words, worker_words, tick_words, step_words, compacted_words}
+use Rattle.cw_run.specs.Answers.{reply_words}
 use Rattle.cw_run.specs.Looks.{uuid_of, member_name, record_words}
 use Rattle.cw_run.specs.Settling.{quiet_text}
 use Rattle.cw_cluster.specs.declared.outcome.Outcome.{Outcome}

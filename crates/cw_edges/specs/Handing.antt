@@ -1,5 +1,5 @@
--- What a sink's task hands out at its next step, and the file that it goes to (Kafka Connect's FileStreamSinkTask writes
--- one file).
+-- What a sink's task hands out at its next step, and the file that it goes to (Kafka Connect's FileStreamSinkTask
+-- writes one file).
 use Rattle.std.specs.Prelude.{ℕ, Bool, true, false, List, [], Option, Some, None, unwrap_or, option_and_then}
 use Rattle.std.specs.Prelude.{if◌then◌else◌}
 use Rattle.cw_io.specs.Shelf.{Files}

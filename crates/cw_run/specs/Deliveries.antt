@@ -1,5 +1,5 @@
--- What an instance hands out at its next step, whatever it is: a sink's task may hand out records into its file, and any
--- other nothing.
+-- What an instance hands out at its next step, whatever it is: a sink's task may hand out records into its file, and
+-- any other nothing.
 use Rattle.std.specs.Prelude.{◌≡◌, ℕ, Option, Some, None, if◌then◌else◌}
 use Rattle.cw_io.specs.Shelf.{Files}
 use Rattle.cw_model.specs.Lookups.{instance_of}

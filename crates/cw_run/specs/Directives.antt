@@ -12,7 +12,8 @@ use Rattle.cw_model.specs.EventsCompaction.{compact}
 use Rattle.cw_model.specs.Tick.{tick}
 use Rattle.cw_model.specs.Steps.{step}
 use Rattle.cw_edges.specs.Requests.{answers, call_of}
-use Rattle.cw_run.specs.Answers.{Told, told, says, epoch_words, committed_words, worker_words, tick_words, step_words, compacted_words, reply_words, pair_of}
+use Rattle.cw_run.specs.Answers.{Told, told, says, epoch_words, committed_words, worker_words, tick_words, step_words}
+use Rattle.cw_run.specs.Answers.{compacted_words, reply_words, pair_of}
 use Rattle.cw_run.specs.Looks.{held_words, member_words, taken_words}
 use Rattle.cw_run.specs.Settling.{settles}
 

@@ -6,7 +6,9 @@ ghost use Rattle.cw_model.specs.Cases.{empty_cluster};
 ghost use Rattle.cw_model.specs.WorkedCases.{setting};
 ghost use Rattle.cw_lines.specs.declared.end.DriveEnd.TheVariants.{BadScript, Full};
 ghost use Rattle.cw_run.specs.Run.{run};
-ghost use Rattle.cw_run.specs.Scripts.{lines, wanted, IsAnswered, played_with, empty_feeds, worn, out_of_offsets, creation, producers, member, killed, created, settled, altered, zombie, compacted};
+ghost use Rattle.cw_run.specs.Scripts.{lines, wanted, IsAnswered, played_with, empty_feeds, worn, out_of_offsets};
+ghost use Rattle.cw_run.specs.Scripts.{creation, producers, member, killed, created, settled, altered, zombie};
+ghost use Rattle.cw_run.specs.Scripts.{compacted};
 
 /// A producer is judged by its epoch (KIP-98), and then by the ends of the parts that it commits.
 pub fn producers_are_judged_by_their_epochs()
