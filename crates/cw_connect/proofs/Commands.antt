@@ -1,7 +1,8 @@
 -- Words are one command.
 use Rattle.std.proofs.Common.{◌≡◌, Option, None, Some}
 use Rattle.cw_words.specs.declared.command.Command.{Command}
-use Rattle.cw_words.specs.declared.command.Command.TheVariants.{Drive, Audit}
+use Rattle.cw_words.specs.declared.command.Command.TheVariants.{Drive, Audit, Gen}
+use Rattle.cw_words.specs.declared.command.GenOptions.{GenOptions}
 use Rattle.cw_words.specs.declared.command.Options.{Options}
 
 module _ (asked : Option Command) where
@@ -14,8 +15,17 @@ module _ (asked : Option Command) where
   pub same_audit : (a b : Options) → asked ≡ Some (Audit a) → asked ≡ Some (Audit b) → a ≡ b
   same_audit a b one two = cc
 
+  pub same_gen : (a b : GenOptions) → asked ≡ Some (Gen a) → asked ≡ Some (Gen b) → a ≡ b
+  same_gen a b one two = cc
+
   pub drive_or_audit : (a b : Options) → asked ≡ Some (Drive a) → asked ≡ Some (Audit b) → ⊥
   drive_or_audit a b one two = cc
+
+  pub drive_or_gen : (a : Options) (b : GenOptions) → asked ≡ Some (Drive a) → asked ≡ Some (Gen b) → ⊥
+  drive_or_gen a b one two = cc
+
+  pub audit_or_gen : (a : Options) (b : GenOptions) → asked ≡ Some (Audit a) → asked ≡ Some (Gen b) → ⊥
+  audit_or_gen a b one two = cc
 
   pub some_or_none : (a : Command) → asked ≡ Some a → asked ≡ None → ⊥
   some_or_none a one two = cc

@@ -1,5 +1,5 @@
 -- Files have one first harm at most.
-use Rattle.std.proofs.Common.{◌≡◌, ◌⊎◌, inl, inr, ℕ, Some, IsSome, suc, ◌+◌, Bool, true, false, List, [], ◌∷◌, ◌++◌, length, refl, sym, ap, subst, ◌∙◌, arith, append_assoc}
+use Rattle.std.proofs.Common.{◌≡◌, inl, inr, ℕ, Some, IsSome, suc, Bool, true, false, List, [], ◌∷◌, ◌++◌, length, refl, sym, ap, subst, ◌∙◌, arith, append_assoc}
 use Rattle.std.specs.List.{AllZip}
 use Rattle.std.proofs.lemmas.List.{append-nil}
 use Rattle.cw_types.specs.declared.logs.DiskName.{DiskName}
@@ -11,11 +11,11 @@ use Rattle.cw_bytes.specs.Unread.{Unread}
 use Rattle.cw_txn.specs.BodyReading.{entries_at}
 use Rattle.cw_offset.specs.BodyReading.{entry_at as stored_at}
 use Rattle.cw_data.specs.BodyReading.{entry_at as data_at}
-use Rattle.cw_log.specs.Log.{StandsFor, IsUnmade, kind_of}
+use Rattle.cw_log.specs.Log.{kind_of}
 use Rattle.cw_log.specs.declared.fault.Harm.{Harm}
 use Rattle.cw_log.specs.declared.fault.Harm.TheVariants.{Magic, Version, Kind, Header, SameSide, Length, Content, Unsafe}
 use Rattle.cw_log.proofs.OneReading.{one_harm, sound, stands_for_one}
-use Rattle.cw_pair.specs.Pair.{IsGreatest, IsRight, PairStandsFor}
+use Rattle.cw_pair.specs.Pair.{IsGreatest, IsRight}
 use Rattle.cw_pair.specs.State.{side_of}
 use Rattle.cw_pair.proofs.Harms.{one_pair_harm}
 use Rattle.cw_pair.proofs.Pairs.{behind_low, not_both, pair_one, pair_sound}
@@ -25,7 +25,6 @@ use Rattle.cw_laws.proofs.Framed.{each_from-rest}
 use Rattle.cw_open.specs.Contents.{list_in}
 use Rattle.cw_open.specs.FoundFrames.{StandsAt}
 use Rattle.cw_open.specs.Judged.{HasChosenSide, IsChosenDisk, HasFirstHarm, HasFrameHarm}
-use Rattle.cw_open.specs.Leaving.{StandForLists}
 use Rattle.cw_open.specs.Reopened.{DiskFiles, FilesHold, FirstHarmFrom, HasFileHarm, HasPairHarm, HasTopicHarm, StandForSome, all_logs, disk_of}
 
 -- ---- the first that lacks something

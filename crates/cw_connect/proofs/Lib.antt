@@ -4,5 +4,6 @@ pub mod Refused
 pub mod Commands
 pub mod Unread
 pub mod Reported
+pub mod Generated
 pub mod Runs
 pub mod FirstHarm

@@ -10,7 +10,6 @@ use Rattle.cw_open.specs.declared.reopen_fault.ReopenCause.TheVariants as cause
 use Rattle.cw_types.specs.Faults.{Rose}
 use Rattle.cw_types.specs.declared.logs.DiskName.{DiskName}
 use Rattle.cw_connect.specs.Statuses.{status_of_cause, status_of_end}
-use Rattle.cw_connect.specs.declared.status.Status.{Status}
 use Rattle.cw_connect.specs.declared.status.Status.TheVariants.{StoreFault, Damaged}
 
 -- disks that weren't opened

@@ -1,5 +1,5 @@
 -- What follows of an audit that ended.
-use Rattle.std.proofs.Common.{◌≡◌, ◌⊎◌, ℕ, List, Some, inl, inr, refl, ap, sym, ◌∙◌}
+use Rattle.std.proofs.Common.{◌≡◌, ◌⊎◌, ℕ, Some, inl, inr, refl, ap}
 use Rattle.cw_audit.specs.Audited.{HasReportOf, IsRefused, Writes}
 use Rattle.cw_audit.specs.declared.end.AuditEnd.{AuditEnd}
 use Rattle.cw_audit.specs.declared.end.AuditEnd.TheVariants as end
@@ -15,7 +15,6 @@ use Rattle.cw_words.specs.declared.command.Options.{Options}
 use Rattle.cw_connect.specs.Audited.{IsAudited}
 use Rattle.cw_connect.specs.Outcomes.{IsRefusedFor}
 use Rattle.cw_connect.specs.Statuses.{status_of_audit}
-use Rattle.cw_connect.specs.declared.status.Status.{Status}
 use Rattle.cw_connect.specs.declared.status.Status.TheVariants.{Done, WriteFault, StoreFault, Damaged, Memory}
 
 module _ {D O H : Type 0} (G : Ghosts D) (o : Output O) (S : shelf.Ghosts H) (options : Options) (on : H) (out_old out_new : O) (old new : Disks D) (feeds : Files)

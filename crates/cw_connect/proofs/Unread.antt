@@ -1,5 +1,5 @@
 -- Words that weren't read: nothing is touched.
-use Rattle.std.proofs.Common.{◌≡◌, ◌≤◌, ◌⊎◌, ℕ, List, Option, None, Some, Result, Err, inl, inr, refl, subst, sym, arith}
+use Rattle.std.proofs.Common.{◌≡◌, ℕ, List, None, Result, Err, inl, inr, refl, subst, sym, arith}
 use Rattle.cw_disk.specs.declared.device.Disk.{Ghosts}
 use Rattle.cw_io.specs.declared.outlet.Outlet as outlet
 use Rattle.cw_io.specs.declared.shelf.Shelf as shelf
@@ -9,7 +9,7 @@ use Rattle.cw_log.specs.declared.fault.Harm.{Harm}
 use Rattle.cw_types.specs.declared.logs.DiskName.{DiskName}
 use Rattle.cw_words.specs.Asked.{command_of}
 use Rattle.cw_words.specs.declared.command.Command.{Command}
-use Rattle.cw_words.specs.declared.command.Command.TheVariants.{Drive, Audit}
+use Rattle.cw_words.specs.declared.command.Command.TheVariants.{Drive, Audit, Gen}
 use Rattle.cw_words.specs.declared.command.WordsFault.{WordsFault}
 use Rattle.cw_words.specs.declared.command.WordsFault.TheVariants as why
 use Rattle.cw_connect.specs.Ended.{Handed, HasEnded}
@@ -60,12 +60,14 @@ module _ {D I O H U : Type 0} (G : Ghosts D) (i : Input I) (o : Output O) (S : s
     drives = λ options asked. inl (record { nothing = (refl, refl, refl); left = inl refl });
     audits = λ options asked. (refl, inl refl);
     audits_apart = λ options asked. (refl, refl);
+    generates = λ options asked. refl;
+    generates_apart = λ options asked. refl;
     makes = λ options asked empty done. absurd (memory_is.done done);
     usage = λ is. absurd (memory_or_usage is);
     no_command = λ none. inr refl;
     untouched = λ none. refl;
     damaged_only = λ disk at harm is. absurd (memory_is.damaged disk at harm is);
-    damaged = λ command asked files tell at place harm has. tt;
+    damaged = λ command asked opens files tell at place harm has. tt;
     store_fault = λ disk count is. absurd (memory_is.store disk count is);
     shelf_fault = λ is. absurd (memory_is.shelf is);
     outlet_fault = λ is. absurd (memory_is.outlet is);
@@ -78,6 +80,7 @@ module _ {D I O H U : Type 0} (G : Ghosts D) (i : Input I) (o : Output O) (S : s
     later_disks = λ disk. omega arith;
     complete = λ options asked bytes told files tell stored s lists stand fine calm_in calm_out calm_shelf calm_outlet calm_disks. inr refl;
     reported = λ options asked files tell stored s lists stand calm_out calm_shelf calm_disks. inr refl;
+    summed = λ options asked calm. inr refl;
   }
 
   -- or the words are no command
@@ -86,12 +89,14 @@ module _ {D I O H U : Type 0} (G : Ghosts D) (i : Input I) (o : Output O) (S : s
     drives = λ options asked. absurd (some_or_none (command_of words) (Drive options) asked none);
     audits = λ options asked. absurd (some_or_none (command_of words) (Audit options) asked none);
     audits_apart = λ options asked. (refl, refl);
+    generates = λ options asked. absurd (some_or_none (command_of words) (Gen options) asked none);
+    generates_apart = λ options asked. refl;
     makes = λ options asked empty done. absurd (usage_is.done done);
     usage = λ is. none;
     no_command = λ is. inl refl;
     untouched = λ is. refl;
     damaged_only = λ disk at harm is. absurd (usage_is.damaged disk at harm is);
-    damaged = λ command asked files tell at place harm has. absurd (some_or_none (command_of words) command asked none);
+    damaged = λ command asked opens files tell at place harm has. absurd (some_or_none (command_of words) command asked none);
     store_fault = λ disk count is. absurd (usage_is.store disk count is);
     shelf_fault = λ is. absurd (usage_is.shelf is);
     outlet_fault = λ is. absurd (usage_is.outlet is);
@@ -104,6 +109,7 @@ module _ {D I O H U : Type 0} (G : Ghosts D) (i : Input I) (o : Output O) (S : s
     later_disks = λ disk. omega arith;
     complete = λ options asked. absurd (some_or_none (command_of words) (Drive options) asked none);
     reported = λ options asked. absurd (some_or_none (command_of words) (Audit options) asked none);
+    summed = λ options asked. absurd (some_or_none (command_of words) (Gen options) asked none);
   }
 
   -- as the fault of the words has it

@@ -17,16 +17,25 @@ use Rattle.cw_types.specs.Faults.{Rose}
 use Rattle.cw_types.specs.declared.logs.DiskName.{DiskName}
 use Rattle.cw_words.specs.Asked.{command_of}
 use Rattle.cw_words.specs.declared.command.Command.{Command}
-use Rattle.cw_words.specs.declared.command.Command.TheVariants.{Drive, Audit}
+use Rattle.cw_words.specs.declared.command.Command.TheVariants.{Drive, Audit, Gen}
+use Rattle.cw_words.specs.declared.command.GenOptions.{GenOptions}
 use Rattle.cw_words.specs.declared.command.Options.{Options}
 use Rattle.cw_run.specs.Run.{run}
 use Rattle.cw_connect.specs.Audited.{IsAudited}
+use Rattle.cw_connect.specs.Generated.{IsGenerated, run_asked}
 use Rattle.cw_connect.specs.Making.{AreMade, AreUnmade}
 use Rattle.cw_connect.specs.Opening.{IsSetFor, IsOpenedFrom}
 use Rattle.cw_connect.specs.Outcomes.{IsRefusedFor, IsRun}
+use Rattle.cw_connect.specs.Statuses.{status_of_stop}
 use Rattle.cw_connect.specs.declared.status.Status.{Status}
 use Rattle.cw_connect.specs.declared.status.Status.TheVariants.{Done, Usage, ReadFault, WriteFault, StoreFault, Damaged}
 use Rattle.cw_connect.specs.declared.status.Status.TheVariants.{ShelfFault, OutletFault, Memory}
+
+-- the commands that open the disks
+abbrev pub OpensDisks : Command → Type 0
+OpensDisks (Drive options) = Unit {0}
+OpensDisks (Audit options) = Unit {0}
+OpensDisks (Gen options) = ⊥
 
 -- what the program is handed, and gives back
 pub record Handed (D I O H U : Type 0) : Type 0 where
@@ -47,6 +56,12 @@ pub record HasEnded {D I O H U : Type 0} (G : Ghosts D) (i : Input I) (o : Outpu
       IsAudited G o S options status old.shelf old.output new.output old.disks new.disks
   pub audits_apart : (options : Options) → command_of words ≡ Some (Audit options) →
       (new.input ≡ old.input) × (new.outlet ≡ old.outlet)
+  -- What the script that was made comes to was written, or a first part of it, or nothing, and why. All else that was
+  -- handed in is as it was.
+  pub generates : (options : GenOptions) → command_of words ≡ Some (Gen options) →
+      IsGenerated o options status old.output new.output
+  pub generates_apart : (options : GenOptions) → command_of words ≡ Some (Gen options) →
+      new ≡ record old { output = new.output }
   -- Over unmade disks a script without a byte leaves made ones: of a log of two sides side a.
   pub makes : (options : Options) → command_of words ≡ Some (Drive options) → i.left old.input ≡ Some [] →
       status ≡ Done → (files : DiskFiles) → TellAll G old.disks files → AreUnmade files → AreMade G files new.disks
@@ -58,7 +73,7 @@ pub record HasEnded {D I O H U : Type 0} (G : Ghosts D) (i : Input I) (o : Outpu
   -- Damaged comes exactly where the files have a harm, and tells their first, of which there is one.
   pub damaged_only : (disk : DiskName) (at : ℕ) (harm : Harm) → status ≡ Damaged disk at harm →
       (files : DiskFiles) → TellAll G old.disks files → HasFirstHarm files disk at harm
-  pub damaged : (command : Command) → command_of words ≡ Some command →
+  pub damaged : (command : Command) → command_of words ≡ Some command → OpensDisks command →
       (files : DiskFiles) → TellAll G old.disks files → (at : DiskName) (place : ℕ) (harm : Harm) →
       HasFirstHarm files at place harm → IsRefusedFor at place harm status
   -- A fault comes only where its object's count of faults rose, and no count falls.
@@ -91,3 +106,8 @@ pub record HasEnded {D I O H U : Type 0} (G : Ghosts D) (i : Input I) (o : Outpu
       ¬ Rose (o.faults old.output) (o.faults new.output) → ¬ Rose (S.faults old.shelf) (S.faults new.shelf) →
       ((disk : DiskName) → ¬ Rose (G.count (disk_in disk old.disks)) (G.count (disk_in disk new.disks))) →
       (status ≡ Done) ⊎ (status ≡ Memory)
+  -- A script that was made is done where its run comes to its end and writing doesn't fail, and else tells what ended
+  -- it, unless memory is wanting.
+  pub summed : (options : GenOptions) → command_of words ≡ Some (Gen options) →
+      ¬ Rose (o.faults old.output) (o.faults new.output) →
+      (status ≡ status_of_stop (run_asked options).stop) ⊎ (status ≡ Memory)

@@ -3,4 +3,5 @@ pub mod Opening
 pub mod Outcomes
 pub mod Making
 pub mod Audited
+pub mod Generated
 pub mod Ended

@@ -1,7 +1,9 @@
 -- The numbers that the program exits with, and the line that it prints for each. This project's own.
-use Rattle.std.specs.Prelude.{ℕ, List, [], ◌∷◌, ◌++◌, codes, decimal}
+use Rattle.std.specs.Prelude.{ℕ, List, [], ◌∷◌, ◌++◌, Option, None, Some, codes, decimal}
 use Rattle.cw_audit.specs.declared.end.AuditEnd.{AuditEnd}
 use Rattle.cw_audit.specs.declared.end.AuditEnd.TheVariants as audit
+use Rattle.cw_gen.specs.declared.end.GenEnd.{GenEnd}
+use Rattle.cw_gen.specs.declared.end.GenEnd.TheVariants as gen
 use Rattle.cw_io.specs.declared.shelf.ShelfFault.{ShelfFault as OfShelf}
 use Rattle.cw_io.specs.declared.shelf.ShelfFault.TheVariants as shelf
 use Rattle.cw_lines.specs.declared.end.DriveEnd.{DriveEnd}
@@ -81,6 +83,11 @@ status_of_end end.OutletFault = OutletFault
 status_of_end (end.Full log length frame) = Full log length frame
 status_of_end end.Memory = Memory
 
+-- a script by what ended it early, if anything did
+abbrev pub status_of_stop : Option DriveEnd → Status
+status_of_stop None = Done
+status_of_stop (Some end) = status_of_end end
+
 -- a report that ended
 abbrev pub status_of_audit : AuditEnd → Status
 status_of_audit audit.Done = Done
@@ -88,3 +95,10 @@ status_of_audit audit.WriteFault = WriteFault
 status_of_audit (audit.StoreFault disk count) = StoreFault disk count
 status_of_audit (audit.Damaged disk at harm) = Damaged disk at harm
 status_of_audit audit.Memory = Memory
+
+-- a script that was made, and ended
+abbrev pub status_of_gen : GenEnd → Status
+status_of_gen gen.Done = Done
+status_of_gen gen.WriteFault = WriteFault
+status_of_gen (gen.Full log length frame) = Full log length frame
+status_of_gen gen.Memory = Memory

@@ -3,12 +3,13 @@
 //! Over the cluster for which its disks stand and the lines that it reads, `connect` answers these lines and nothing
 //! else, every state on the way is safe, what a stop leaves of the disks stands for the state that is left, or where a
 //! disk failed for that before or behind the event in flight, and damaged files are refused at their first harm.
-//! It stands on cw_words, cw_feed, cw_open, cw_cluster and cw_audit.
+//! It stands on cw_words, cw_feed, cw_open, cw_cluster, cw_audit and cw_gen.
 #![tactic(auto)]
 
 mod auditing;
 mod driving;
 mod ending;
+mod generating;
 mod opening;
 mod status;
 mod top;

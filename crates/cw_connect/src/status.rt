@@ -1,10 +1,11 @@
 //! How a run of the program ended.
 ghost use Rattle.std.specs.Prelude.{◌≡◌};
 ghost use Rattle.cw_connect.specs.Statuses.{status_number, status_of_audit, status_of_cause, status_of_end};
-ghost use Rattle.cw_connect.specs.Statuses.{status_of_shelf, status_of_words};
+ghost use Rattle.cw_connect.specs.Statuses.{status_of_gen, status_of_shelf, status_of_words};
 
 use cw_audit::AuditEnd;
 use cw_cluster::DriveEnd;
+use cw_gen::GenEnd;
 use cw_io::ShelfFault;
 use cw_log::Harm;
 use cw_open::ReopenCause;
@@ -15,7 +16,7 @@ use cw_words::WordsFault;
 /// How a run ended. `main` exits with the status's number.
 #[derive(Clone, Copy, Debug, PartialEq, Eq, Drop)]
 pub enum Status {
-    /// The input was read to its end and every directive was answered.
+    /// The input was read to its end and every directive was answered, or the whole report or summary was written.
     Done,
     /// The words aren't a command.
     Usage,
@@ -129,6 +130,18 @@ impl Status {
             AuditEnd::StoreFault { disk, count } => Status::StoreFault { disk, count },
             AuditEnd::Damaged { disk, at, harm } => Status::Damaged { disk, at, harm },
             AuditEnd::Memory => Status::Memory,
+        }
+    }
+
+    /// How a run ends whose script was made and ended so.
+    pub(crate) fn of_gen(end: GenEnd) -> Status
+        ensures { result ≡ status_of_gen end }
+    {
+        match end {
+            GenEnd::Done => Status::Done,
+            GenEnd::WriteFault => Status::WriteFault,
+            GenEnd::Full { log, length, frame } => Status::Full { log, length, frame },
+            GenEnd::Memory => Status::Memory,
         }
     }
 

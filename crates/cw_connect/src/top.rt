@@ -16,7 +16,7 @@ ghost use Rattle.cw_open.specs.Reopened.{DiskFiles};
 ghost use Rattle.cw_script.specs.Lines.{line_of};
 ghost use Rattle.cw_script.specs.declared.directive.Directive.{Directive};
 ghost use Rattle.cw_types.specs.declared.logs.DiskName.{DiskName};
-ghost use Rattle.cw_words.specs.Asked.{command_of};
+ghost use Rattle.cw_words.specs.Asked.{IsInRange, command_of};
 ghost use Rattle.cw_run.specs.Flight.{IsInFlight};
 ghost use Rattle.cw_run.specs.Ran.{Ran};
 ghost use Rattle.cw_run.specs.Reaches.{HaveNames};
@@ -25,6 +25,7 @@ ghost use Rattle.cw_connect.specs.Ended.{HasEnded};
 
 use crate::auditing::{Report, open_and_audit};
 use crate::driving::open_and_drive;
+use crate::generating::make_and_play;
 use crate::status::Status;
 use cw_disk::{Disk, Disks};
 use cw_io::{Outlet, Shelf, Sink, Source};
@@ -50,7 +51,9 @@ pub struct Outcome<D, U> {
 
 /// The program. The words are judged first; where they are no command, nothing is touched. The command `drive` then
 /// loads the feeds, opens the disks as a cluster, and plays the script that the input holds, writing an answer line
-/// for each directive. `audit` loads the feeds and opens the disks too, and writes what the logs hold.
+/// for each directive. `audit` loads the feeds and opens the disks too, and writes what the logs hold. `gen` makes a
+/// script from its number, plays it over disks of its own in memory, and writes what it comes to; of what is handed in
+/// it touches the output alone.
 pub fn connect<R: AllocGlobal, D: Disk, I: Source, O: Sink, H: Shelf, U: Outlet>(
     rt: &R,
     words: &[String],
@@ -158,6 +161,7 @@ fn run_command<D: Disk, I: Source, O: Sink, H: Shelf, U: Outlet>(
     shelf: &mut H,
     outlet: U,
 ) -> Outcome<D, U>
+    requires ranges { IsInRange command }
     ensures { (words : List (List ℕ)) → command_of words ≡ Some command →
         HasEnded D.Disk I.Source O.Sink H.Shelf U.Outlet words result.status
         (record { disks = disks; input = input.old; output = output.old; shelf = shelf.old; outlet = outlet })
@@ -184,5 +188,10 @@ fn run_command<D: Disk, I: Source, O: Sink, H: Shelf, U: Outlet>(
                 outlet,
             }
         }
+        Command::Gen(options) => Outcome {
+            status: make_and_play(alloc, options, output),
+            disks,
+            outlet,
+        },
     }
 }

@@ -8,7 +8,7 @@ use Rattle.clap.specs.Words.{App, Rule, Text, app_of, rule_of}
 use Rattle.clap.specs.declared.builder.arg.Arg.{Arg}
 use Rattle.clap.specs.declared.builder.command.Command.{Command}
 use Rattle.clap.specs.declared.builder.command.Command.TheViews.{out-Command}
-use Rattle.cw_words.specs.Program.{option}
+use Rattle.cw_words.specs.Program.{option, value}
 
 local_rule : (a : Arg) → is_simple_arg a ≡ true → a.global ≡ false
 local_rule a e =
@@ -25,6 +25,9 @@ local_rule a e =
 
 pub local_option : (a : Arg) (name default : Text) → rule_of a ≡ option name default → a.global ≡ false
 local_option a name default is = local_rule a (ap (λ (r : Rule). r.is_simple) is)
+
+pub local_value : (a : Arg) (name : Text) → rule_of a ≡ value name → a.global ≡ false
+local_value a name is = local_rule a (ap (λ (r : Rule). r.is_simple) is)
 
 pub local_app : (c : Command) (a : App) → app_of c ≡ a → a.top.is_plain ≡ true → (out-Command c).has_globals ≡ false
 local_app c a is plain = (plain_fields c (ap (λ (b : App). b.top.is_plain) is ∙ plain)).globals

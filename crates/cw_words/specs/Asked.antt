@@ -8,7 +8,8 @@ use Rattle.cw_types.specs.Decimal.{number_of}
 use Rattle.cw_types.specs.Name.{name_of}
 use Rattle.cw_words.specs.Program.{program}
 use Rattle.cw_words.specs.declared.command.Command.{Command}
-use Rattle.cw_words.specs.declared.command.Command.TheVariants.{Drive, Audit}
+use Rattle.cw_words.specs.declared.command.Command.TheVariants.{Drive, Audit, Gen}
+use Rattle.cw_words.specs.declared.command.GenOptions.{GenOptions}
 use Rattle.cw_words.specs.declared.command.Options.{Options}
 use Rattle.cw_words.specs.declared.command.WordsFault.{WordsFault}
 use Rattle.cw_words.specs.declared.command.WordsFault.TheVariants.{Usage}
@@ -34,10 +35,27 @@ abbrev pub options_of : List Row → Option Options
 options_of rows = option_and_then (λ group. option_map (λ delay. record { group = group; delay = delay })
     (number_in 0 most_delay (codes "delay") rows)) (name_in (codes "group") rows)
 
+-- the most directives that a script is made of
+abbrev pub most_directives : ℕ
+most_directives = 1000000
+
+-- which script is to be made, with what every command takes
+abbrev pub script_of : Options → List Row → Option GenOptions
+script_of shared rows = option_and_then (λ start. option_map (λ count. record {
+  start = start;
+  count = count;
+  shared = shared;
+}) (number_in 1 most_directives (codes "COUNT") rows)) (number_in 0 (2 ^ 64 - 1) (codes "START") rows)
+
+-- what `gen` takes
+abbrev pub gen_options_of : List Row → Option GenOptions
+gen_options_of rows = option_and_then (λ shared. script_of shared rows) (options_of rows)
+
 -- the command of a subcommand's name and of the values that were found for it
 abbrev pub command_named : Text × List Row → Option Command
 command_named p = if bytes_eq p.0 (codes "drive") then option_map Drive (options_of p.1)
-    else if bytes_eq p.0 (codes "audit") then option_map Audit (options_of p.1) else None
+    else if bytes_eq p.0 (codes "audit") then option_map Audit (options_of p.1)
+    else if bytes_eq p.0 (codes "gen") then option_map Gen (gen_options_of p.1) else None
 
 -- the command of the subcommand that was found
 abbrev pub command_in : Option (Text × List Row) → Option Command
@@ -52,10 +70,17 @@ unless_fault (kind ∷ kinds) asked = None
 abbrev pub command_of : List Text → Option Command
 command_of words = unless_fault (fault_of program words) (command_in (subcommand_of program words))
 
+-- the numbers of `gen` are in their ranges
+pub record IsMadeInRange (options : GenOptions) : Type 0 where
+  pub least : 1 ≤ options.count
+  pub most : options.count ≤ most_directives
+  pub delay : options.shared.delay ≤ most_delay
+
 -- the numbers of a command are in their ranges
 abbrev pub IsInRange : Command → Type 0
 IsInRange (Drive options) = options.delay ≤ most_delay
 IsInRange (Audit options) = options.delay ≤ most_delay
+IsInRange (Gen options) = IsMadeInRange options
 
 -- what is asked for, or the fault of words that ask for nothing
 abbrev pub or_usage : {A : Type 0} → Option A → Result A WordsFault
@@ -69,3 +94,8 @@ drive_with group delay = Some (Drive (record { group = group; delay = delay }))
 -- `audit` with this group and this delay
 abbrev pub audit_with : Text → ℕ → Option Command
 audit_with group delay = Some (Audit (record { group = group; delay = delay }))
+
+-- `gen` with this number and so many directives, with this group and this delay
+abbrev pub gen_with : (start count : ℕ) → Text → ℕ → Option Command
+gen_with start count group delay =
+    Some (Gen (record { start = start; count = count; shared = record { group = group; delay = delay } }))

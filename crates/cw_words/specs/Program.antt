@@ -8,6 +8,10 @@ use Rattle.clap.specs.Words.{App, Rule, Text, new_app, new_rule, with_rule, with
 abbrev pub option : Text → Text → Rule
 option name default = record (new_rule name) { long = Some name; defaults = default ∷ [] }
 
+-- a value without a name, which has to be given
+abbrev pub value : Text → Rule
+value name = record (new_rule name) { required = true }
+
 -- with the options that every command takes
 abbrev pub with_shared : App → App
 with_shared a = with_rule (with_rule a (option (codes "group") (codes "connect-cluster")))
@@ -19,6 +23,10 @@ drive = with_shared (new_app (codes "drive"))
 abbrev pub audit : App
 audit = with_shared (new_app (codes "audit"))
 
+-- `gen START COUNT`
+abbrev pub generating : App
+generating = with_rule (with_rule (with_shared (new_app (codes "gen"))) (value (codes "START"))) (value (codes "COUNT"))
+
 -- the words are those behind the program's name
 abbrev pub named : App
 named = record (new_app (codes "connect")) {
@@ -26,4 +34,4 @@ named = record (new_app (codes "connect")) {
 }
 
 abbrev pub program : App
-program = with_subcommand (with_subcommand named drive.top) audit.top
+program = with_subcommand (with_subcommand (with_subcommand named drive.top) audit.top) generating.top

@@ -15,6 +15,17 @@ pub struct Options {
     pub delay: u64,
 }
 
+/// What `gen` takes: which script is made, and what every command takes.
+#[derive(Debug, PartialEq, Eq, Drop)]
+pub struct GenOptions {
+    /// The number that the script is made from.
+    pub start: u64,
+    /// How many directives it has, from 1 to 1,000,000.
+    pub count: u64,
+    /// What every command takes.
+    pub shared: Options,
+}
+
 /// A command of the program.
 #[derive(Debug, PartialEq, Eq, Drop)]
 pub enum Command {
@@ -22,6 +33,8 @@ pub enum Command {
     Drive(Options),
     /// Says what the logs of a stopped cluster hold.
     Audit(Options),
+    /// Plays a script that is made from a number, and says what it came to.
+    Gen(GenOptions),
 }
 
 /// Why words give no command.

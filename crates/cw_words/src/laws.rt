@@ -1,9 +1,10 @@
 //! What the reading of words comes to at words that are written out.
 ghost use Rattle.std.specs.Prelude.{◌≡◌, None, [], ◌∷◌, codes};
-ghost use Rattle.cw_words.specs.Asked.{audit_with, command_of, drive_with};
+ghost use Rattle.cw_words.specs.Asked.{audit_with, command_of, drive_with, gen_with};
 
-/// The law of the program's words: options have defaults and come in any order, with `=` or, where the value doesn't
-/// begin with `-`, a word of its own; and what is more, missing, out of range or a question for help is no command.
+/// The law of the program's words: options have defaults and come in any order, also between values without a name,
+/// with `=` or, where the value doesn't begin with `-`, a word of its own; and what is more, missing, out of range or a
+/// question for help is no command.
 pub fn words_are_read()
     ensures alone { command_of (codes "drive" ∷ []) ≡ drive_with (codes "connect-cluster") 300000 }
     ensures given { command_of (codes "drive" ∷ codes "--delay" ∷ codes "1099511627776" ∷ codes "--group=g" ∷ []) ≡
@@ -13,6 +14,15 @@ pub fn words_are_read()
     ensures minus { command_of (codes "drive" ∷ codes "--group=-g" ∷ []) ≡ drive_with (codes "-g") 300000 }
     ensures minus_apart { command_of (codes "drive" ∷ codes "--group" ∷ codes "-g" ∷ []) ≡ None }
     ensures audit { command_of (codes "audit" ∷ codes "--group" ∷ codes "g" ∷ []) ≡ audit_with (codes "g") 300000 }
+    ensures script { command_of (codes "gen" ∷ codes "7" ∷ codes "20000" ∷ []) ≡
+        gen_with 7 20000 (codes "connect-cluster") 300000 }
+    ensures script_given { command_of (codes "gen" ∷ codes "--delay=0" ∷ codes "18446744073709551615" ∷
+        codes "--group" ∷ codes "g" ∷ codes "1000000" ∷ []) ≡ gen_with 18446744073709551615 1000000 (codes "g") 0 }
+    ensures script_without { command_of (codes "gen" ∷ codes "7" ∷ []) ≡ None }
+    ensures script_none { command_of (codes "gen" ∷ codes "7" ∷ codes "0" ∷ []) ≡ None }
+    ensures script_above { command_of (codes "gen" ∷ codes "7" ∷ codes "1000001" ∷ []) ≡ None }
+    ensures script_minus { command_of (codes "gen" ∷ codes "-1" ∷ codes "4" ∷ []) ≡ None }
+    ensures script_more { command_of (codes "gen" ∷ codes "7" ∷ codes "4" ∷ codes "4" ∷ []) ≡ None }
     ensures nothing { command_of [] ≡ None }
     ensures unknown { command_of (codes "run" ∷ []) ≡ None }
     ensures more { command_of (codes "drive" ∷ codes "more" ∷ []) ≡ None }

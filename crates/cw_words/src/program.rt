@@ -1,7 +1,7 @@
 //! The definition that `clap` is given of the program.
 ghost use Rattle.std.specs.Prelude.{◌≡◌, IfOk};
 ghost use Rattle.clap.specs.Words.{app_of, rule_of};
-ghost use Rattle.cw_words.specs.Program.{audit, drive, named, option, program, with_shared};
+ghost use Rattle.cw_words.specs.Program.{audit, drive, generating, named, option, program, value, with_shared};
 
 use clap::{Arg, Command};
 use std::alloc::{AllocError, Global};
@@ -11,6 +11,13 @@ fn option<'a>(alloc: Global, name: &'a str, default: &'a str) -> Arg<'a>
     ensures { rule_of result ≡ option name.entry.now default.entry.now }
 {
     Arg::new(alloc, name).long(name).default_value(default)
+}
+
+// A value without a name, which has to be given.
+fn value<'a>(alloc: Global, name: &'a str) -> Arg<'a>
+    ensures { rule_of result ≡ value name.entry.now }
+{
+    Arg::new(alloc, name).required(true)
 }
 
 // A command with the options that every command takes.
@@ -34,6 +41,14 @@ fn audit<'a>(alloc: Global) -> Result<Command<'a>, AllocError>
     with_shared(alloc, Command::new(alloc, "audit"))
 }
 
+fn generating<'a>(alloc: Global) -> Result<Command<'a>, AllocError>
+    ensures { IfOk result (λ r. app_of r ≡ generating) }
+{
+    with_shared(alloc, Command::new(alloc, "gen"))?
+        .arg(value(alloc, "START"))?
+        .arg(value(alloc, "COUNT"))
+}
+
 fn named<'a>(alloc: Global) -> Command<'a>
     ensures { app_of result ≡ named }
 {
@@ -48,5 +63,6 @@ pub(crate) fn program<'a>(alloc: Global) -> Result<Command<'a>, AllocError>
 {
     named(alloc)
         .subcommand(drive(alloc)?)?
-        .subcommand(audit(alloc)?)
+        .subcommand(audit(alloc)?)?
+        .subcommand(generating(alloc)?)
 }

@@ -3,9 +3,9 @@ ghost use Rattle.std.specs.Prelude.{◌≡◌, ◌≢◌, None, Some, Err, IfOk,
 ghost use Rattle.clap.specs.Words.{first_of, found_of, kind_of, rows_of, subcommand_rows_of};
 ghost use Rattle.cw_types.specs.Answers.{Gives};
 ghost use Rattle.cw_words.specs.Asked.{IsInRange, command_in, command_of, name_in, number_between, number_in};
-ghost use Rattle.cw_words.specs.Asked.{options_of, or_usage};
+ghost use Rattle.cw_words.specs.Asked.{gen_options_of, options_of, or_usage, script_of};
 
-use crate::command::{Command, Options, WordsFault};
+use crate::command::{Command, GenOptions, Options, WordsFault};
 use crate::program::program;
 use clap::ArgMatches;
 use clap::error::ErrorKind;
@@ -61,6 +61,27 @@ fn options_in(alloc: Global, found: &ArgMatches<'_>) -> Result<Options, WordsFau
     Ok(Options { group, delay })
 }
 
+// Which script is to be made, by the values that were found.
+fn script_in(shared: Options, found: &ArgMatches<'_>) -> Option<GenOptions>
+    ensures { result ≡ script_of shared (rows_of (found_of found.now)) }
+{
+    let start = number_in(found, "START", 0, u64::MAX)?;
+    let count = number_in(found, "COUNT", 1, 1_000_000)?;
+    Some(GenOptions {
+        start,
+        count,
+        shared,
+    })
+}
+
+// What `gen` takes, by the values that were found.
+fn gen_options_in(alloc: Global, found: &ArgMatches<'_>) -> Result<GenOptions, WordsFault>
+    ensures { Gives WordsFault.Memory result (or_usage (gen_options_of (rows_of (found_of found.now)))) }
+{
+    let shared = options_in(alloc, found)?;
+    script_in(shared, found).ok_or(WordsFault::Usage)
+}
+
 // The command of the subcommand that was found.
 fn command_in(alloc: Global, matches: &ArgMatches<'_>) -> Result<Command, WordsFault>
     ensures { Gives WordsFault.Memory result (or_usage (command_in (subcommand_rows_of matches.now))) }
@@ -73,6 +94,9 @@ fn command_in(alloc: Global, matches: &ArgMatches<'_>) -> Result<Command, WordsF
     }
     if name == "audit" {
         return Ok(Command::Audit(options_in(alloc, found)?));
+    }
+    if name == "gen" {
+        return Ok(Command::Gen(gen_options_in(alloc, found)?));
     }
     Err(WordsFault::Usage)
 }
@@ -89,9 +113,9 @@ fn fault_of(error: &clap::Error) -> WordsFault
 }
 
 /// The command that the words behind the program's name are, by `clap`'s reading of the program's definition: one
-/// subcommand with its options, each as `--NAME VALUE` or `--NAME=VALUE` and at most once. Usage comes exactly where
-/// `clap` doesn't take the words (it answers help for some, and no word is a subcommand that is missing), where the
-/// group is no name, or where a number isn't decimal without sign and leading zeros in its range.
+/// subcommand with its values, and with its options, each as `--NAME VALUE` or `--NAME=VALUE` and at most once. Usage
+/// comes exactly where `clap` doesn't take the words (it answers help for some, and no word is a subcommand that is
+/// missing), where the group is no name, or where a number isn't decimal without sign and leading zeros in its range.
 pub fn read_words(alloc: Global, words: &[String]) -> Result<Command, WordsFault>
     ensures asked { IfOk result (λ command. command_of (map string_bytes words.now) ≡ Some command) }
     ensures ranges { IfOk result IsInRange }

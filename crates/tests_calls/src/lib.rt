@@ -1,5 +1,5 @@
-//! Tests of what no contract says of requests, replies, connections, openings, audits and what sinks hand out: that
-//! their calls succeed with ample memory.
+//! Tests of what no contract says of requests, replies, connections, openings, audits, made scripts and what
+//! sinks hand out: that their calls succeed with ample memory.
 //! They stand apart from the crates that they test, so that each of these is proved once. It has no code of its own.
 #![tactic(auto)]
 
@@ -7,6 +7,8 @@
 mod audit;
 #[cfg(test)]
 mod connections;
+#[cfg(test)]
+mod made_scripts;
 #[cfg(test)]
 mod open;
 #[cfg(test)]

@@ -25,6 +25,16 @@ fn drive_has_a_group_and_a_delay(rt: HostRuntime) -> Result<(), Fail> {
 }
 
 #[test]
+fn script_has_a_number_and_a_length(rt: HostRuntime) -> Result<(), Fail> {
+    let Command::Gen(made) = read(&rt, "gen 7 20000 --group g")?? else {
+        return Err(WordsFault::Usage.into());
+    };
+    assert!(rt; made.start == 7 && made.count == 20000);
+    assert!(rt; made.shared.group.as_bytes() == b"g".as_slice() && made.shared.delay == 300000);
+    Ok(())
+}
+
+#[test]
 fn other_words_are_no_command(rt: HostRuntime) -> Result<(), Fail> {
     for line in [
         "",
@@ -34,7 +44,8 @@ fn other_words_are_no_command(rt: HostRuntime) -> Result<(), Fail> {
         "drive -h",
         "drive --delay 01",
         "audit more",
-        "gen 7 4",
+        "gen 7",
+        "gen 7 0",
     ] {
         assert!(rt; read(&rt, line)? == Err(WordsFault::Usage));
     }

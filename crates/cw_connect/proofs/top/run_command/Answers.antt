@@ -1,15 +1,18 @@
-use Rattle.std.proofs.Common.{◌≡◌, ◌∙◌, ℕ, List, Some, ap, arith, refl, subst}
-use Rattle.cw_log.specs.declared.fault.Harm.{Harm}
+use Rattle.std.proofs.Common.{◌≡◌, ◌∙◌, ◌⊎◌, Some, ap, arith, refl, subst}
 use Rattle.cw_model.specs.Reopening.{reopened, stored_of}
-use Rattle.cw_types.specs.declared.logs.DiskName.{DiskName}
 use Rattle.cw_words.specs.Asked.{command_of}
+use Rattle.cw_words.specs.declared.command.Command.TheVariants.{Gen}
+use Rattle.cw_words.specs.declared.command.GenOptions.{GenOptions}
 use Rattle.cw_words.specs.declared.command.Options.{Options}
 use Rattle.cw_connect.specs.Audited.{IsAudited}
+use Rattle.cw_connect.specs.Ended.{OpensDisks}
+use Rattle.cw_connect.specs.Generated.{IsGenerated, run_asked}
 use Rattle.cw_connect.specs.Opening.{IsSetFor}
 use Rattle.cw_connect.specs.Outcomes.{IsRun}
+use Rattle.cw_connect.specs.Statuses.{status_of_stop}
 use Rattle.cw_connect.specs.declared.status.Status.{Status}
-use Rattle.cw_connect.specs.declared.status.Status.TheVariants.{Usage, ReadFault, StoreFault, Damaged, ShelfFault, OutletFault}
-use Rattle.cw_connect.proofs.Commands.{drive_or_audit, same_audit, same_drive, some_or_none}
+use Rattle.cw_connect.specs.declared.status.Status.TheVariants.{Usage, ReadFault, StoreFault, Damaged, ShelfFault, OutletFault, Memory}
+use Rattle.cw_connect.proofs.Commands.{audit_or_gen, drive_or_audit, drive_or_gen, same_audit, same_command, same_drive, same_gen, some_or_none}
 use Rattle.cw_connect.proofs.Runs.{calm, completed, refused}
 use Rattle.cw_connect.proofs.top.run_command.Goals as goal
 
@@ -22,12 +25,14 @@ returns-in-Drive g c = λ words asked.
           c.args.output.now c.open_and_drive.new.output c.args.disks c.open_and_drive.result.disks c.args.outlet c.open_and_drive.result.outlet) (same_drive (command_of words) c.in-Drive.options options is also) done.runs;
       audits = λ options also. absurd (drive_or_audit (command_of words) c.in-Drive.options options is also);
       audits_apart = λ options also. absurd (drive_or_audit (command_of words) c.in-Drive.options options is also);
+      generates = λ options also. absurd (drive_or_gen (command_of words) c.in-Drive.options options is also);
+      generates_apart = λ options also. absurd (drive_or_gen (command_of words) c.in-Drive.options options is also);
       makes = λ options also. done.makes;
       usage = λ it. absurd (done.never_usage it);
       no_command = λ none. absurd (some_or_none (command_of words) _ is none);
       untouched = λ none. absurd (some_or_none (command_of words) _ is none);
       damaged_only = done.damaged_only;
-      damaged = λ other also files tell at place harm has.
+      damaged = λ other also opens files tell at place harm has.
           refused g.D.Disk g.I.Source g.O.Sink g.H.Shelf g.U.Outlet c.in-Drive.options c.open_and_drive.result.status c.args.shelf.now c.args.input.now c.open_and_drive.new.input c.args.output.now
           c.open_and_drive.new.output c.args.disks c.open_and_drive.result.disks c.args.outlet c.open_and_drive.result.outlet done.runs done.damaged_only
           (λ setting s files at place harm facts stand. c.files_open_one_way.ensures.harm files (stored_of s) (reopened s) at place harm stand (c.written_logs_open_again.ensures.stand setting s facts))
@@ -52,6 +57,7 @@ returns-in-Drive g c = λ words asked.
           (λ it. calm_in (done.read_fault it)) (λ it. calm_out (done.write_fault it)) (λ it. calm_shelf (done.shelf_fault it)) (λ it. calm_outlet (done.outlet_fault it))
           (λ disk count it. calm_disks disk (done.store_fault disk count it).rose);
       reported = λ options also. absurd (drive_or_audit (command_of words) c.in-Drive.options options is also);
+      summed = λ options also. absurd (drive_or_gen (command_of words) c.in-Drive.options options is also);
     }
 
 pub returns-in-Audit : goal.returns-in-Audit
@@ -65,12 +71,14 @@ returns-in-Audit g c = λ words asked.
       audits = λ options also. subst (λ (o : Options). IsAudited g.D.Disk g.O.Sink g.H.Shelf o c.open_and_audit-status.result.status c.args.shelf.now c.args.output.now c.open_and_audit-status.new.output c.args.disks c.open_and_audit-status.result.disks)
           (same_audit (command_of words) c.in-Audit.options options is also) done.due;
       audits_apart = λ options also. (refl, refl);
+      generates = λ options also. absurd (audit_or_gen (command_of words) c.in-Audit.options options is also);
+      generates_apart = λ options also. absurd (audit_or_gen (command_of words) c.in-Audit.options options is also);
       makes = λ options also. absurd (drive_or_audit (command_of words) options c.in-Audit.options also is);
       usage = λ it. absurd (never Usage it);
       no_command = λ none. absurd (some_or_none (command_of words) _ is none);
       untouched = λ none. absurd (some_or_none (command_of words) _ is none);
       damaged_only = done.damaged_only;
-      damaged = λ command also. done.damaged;
+      damaged = λ command also opens. done.damaged;
       store_fault = done.store_fault;
       shelf_fault = done.shelf_fault;
       outlet_fault = λ it. absurd (never OutletFault it);
@@ -83,4 +91,40 @@ returns-in-Audit g c = λ words asked.
       later_disks = done.later_disks;
       complete = λ options also. absurd (drive_or_audit (command_of words) options c.in-Audit.options also is);
       reported = λ options also. done.complete;
+      summed = λ options also. absurd (audit_or_gen (command_of words) c.in-Audit.options options is also);
+    }
+
+pub returns-in-Gen : goal.returns-in-Gen
+returns-in-Gen g c = λ words asked.
+    let is = asked ∙ ap Some c.in-Gen.is in
+    let done = c.make_and_play.ensures in
+    let never : (status : Status) → c.make_and_play.result ≡ status → IsGenerated g.O.Sink c.in-Gen.options status c.args.output.now c.make_and_play.new.output
+    = λ status it. subst (λ (s : Status). IsGenerated g.O.Sink c.in-Gen.options s c.args.output.now c.make_and_play.new.output) it done.due in
+    record {
+      drives = λ options also. absurd (drive_or_gen (command_of words) options c.in-Gen.options also is);
+      audits = λ options also. absurd (audit_or_gen (command_of words) options c.in-Gen.options also is);
+      audits_apart = λ options also. absurd (audit_or_gen (command_of words) options c.in-Gen.options also is);
+      generates = λ options also. subst (λ (o : GenOptions). IsGenerated g.O.Sink o c.make_and_play.result c.args.output.now c.make_and_play.new.output)
+          (same_gen (command_of words) c.in-Gen.options options is also) done.due;
+      generates_apart = λ options also. refl;
+      makes = λ options also. absurd (drive_or_gen (command_of words) options c.in-Gen.options also is);
+      usage = λ it. absurd (never Usage it);
+      no_command = λ none. absurd (some_or_none (command_of words) _ is none);
+      untouched = λ none. absurd (some_or_none (command_of words) _ is none);
+      damaged_only = λ disk at harm it. absurd (never (Damaged disk at harm) it);
+      damaged = λ command also opens. absurd (subst OpensDisks (same_command (command_of words) command (Gen c.in-Gen.options) also is) opens);
+      store_fault = λ disk count it. absurd (never (StoreFault disk count) it);
+      shelf_fault = λ it. absurd (never ShelfFault it);
+      outlet_fault = λ it. absurd (never OutletFault it);
+      read_fault = λ it. absurd (never ReadFault it);
+      write_fault = done.write_fault;
+      later_in = omega arith;
+      later_out = done.later_out;
+      later_shelf = omega arith;
+      later_outlet = omega arith;
+      later_disks = λ disk. omega arith;
+      complete = λ options also. absurd (drive_or_gen (command_of words) options c.in-Gen.options also is);
+      reported = λ options also. absurd (audit_or_gen (command_of words) options c.in-Gen.options also is);
+      summed = λ options also calm. subst (λ (o : GenOptions). (c.make_and_play.result ≡ status_of_stop (run_asked o).stop) ⊎ (c.make_and_play.result ≡ Memory))
+          (same_gen (command_of words) c.in-Gen.options options is also) (done.complete calm);
     }

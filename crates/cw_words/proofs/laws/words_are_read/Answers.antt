@@ -73,3 +73,31 @@ returns-clause-minus_apart c = refl
 pub returns-clause-audit : goal.returns-clause-audit
 unfolding clap_on_literals
 returns-clause-audit c = refl
+
+pub returns-clause-script : goal.returns-clause-script
+unfolding clap_on_literals
+returns-clause-script c = refl
+
+pub returns-clause-script_given : goal.returns-clause-script_given
+unfolding clap_on_literals
+returns-clause-script_given c = refl
+
+pub returns-clause-script_without : goal.returns-clause-script_without
+unfolding clap_on_literals
+returns-clause-script_without c = refl
+
+pub returns-clause-script_none : goal.returns-clause-script_none
+unfolding clap_on_literals
+returns-clause-script_none c = refl
+
+pub returns-clause-script_above : goal.returns-clause-script_above
+unfolding clap_on_literals
+returns-clause-script_above c = refl
+
+pub returns-clause-script_minus : goal.returns-clause-script_minus
+unfolding clap_on_literals
+returns-clause-script_minus c = refl
+
+pub returns-clause-script_more : goal.returns-clause-script_more
+unfolding clap_on_literals
+returns-clause-script_more c = refl

@@ -8,7 +8,10 @@ pub returns : goal.returns
 returns c =
     let is_drive = c.in_ok-drive.ensures in
     let is_audit = c.in_ok-audit.ensures in
+    let is_gen = c.in_ok-generating.ensures in
     let first = c.in_ok-subcommand.ensures.shape (local_app _ _ is_drive refl)
     ∙ ap₂ with_subcommand c.named.ensures (ap (λ (a : App). a.top) is_drive) in
-    IfOk-weaker c.subcommand-2.result _ _ (λ r added. added.shape (local_app _ _ is_audit refl)
-    ∙ ap₂ with_subcommand first (ap (λ (a : App). a.top) is_audit)) c.subcommand-2.ensures
+    let second = c.in_ok-subcommand-2.ensures.shape (local_app _ _ is_audit refl)
+    ∙ ap₂ with_subcommand first (ap (λ (a : App). a.top) is_audit) in
+    IfOk-weaker c.subcommand-3.result _ _ (λ r added. added.shape (local_app _ _ is_gen refl)
+    ∙ ap₂ with_subcommand second (ap (λ (a : App). a.top) is_gen)) c.subcommand-3.ensures

@@ -1,0 +1,10 @@
+pub mod Counting
+pub mod Crowds
+pub mod Ends
+pub mod Made
+pub mod Opened
+pub mod RunsOn
+pub mod Spelled
+pub mod Steadying
+pub mod Summed
+pub mod Turned

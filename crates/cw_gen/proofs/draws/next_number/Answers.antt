@@ -1,0 +1,8 @@
+use Rattle.std.proofs.Common.{◌*◌, ◌^◌}
+use Rattle.std.proofs.Math.Nat.{mod-add-mod}
+use Rattle.cw_gen.specs.Draws.{next_number}
+use Rattle.cw_gen.proofs.draws.next_number.Goals as goal
+
+pub returns : goal.returns
+unfolding next_number
+returns c = mod-add-mod (c.args.x * 6364136223846793005) (2 ^ 64) 1442695040888963407
