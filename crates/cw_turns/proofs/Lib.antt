@@ -1,0 +1,7 @@
+pub mod Begun
+pub mod Going
+pub mod Submitted
+pub mod Scanned
+pub mod Leaving
+pub mod Spawned
+pub mod Delivered

@@ -1,0 +1,3 @@
+pub mod Going
+pub mod Left
+pub mod Due
