@@ -1,0 +1,5 @@
+pub mod Begun
+pub mod Disagreeing
+pub mod Faults
+pub mod Keeping
+pub mod Unbegun

@@ -1,0 +1,5 @@
+use Rattle.std.proofs.Common.{refl}
+use Rattle.cw_serve.proofs.ending.conclude.Goals as goal
+
+pub returns-in-Err-clause-ledger : goal.returns-in-Err-clause-ledger
+returns-in-Err-clause-ledger g c = λ agreed. absurd (agreed c.in-Err.disagree refl)

@@ -1,0 +1,38 @@
+use Rattle.std.proofs.Common.{◌≡◌, ◌+◌, ◌≤◌, ◌⊎◌, ⊎_elim, inl, inr, true, arith, ap, sym, subst, ◌∙◌}
+use Rattle.cw_types.specs.Faults.{Rose}
+use Rattle.cw_turns.specs.Going.{GoesOn}
+use Rattle.cw_serve.proofs.named.serve_named.Goals as goal
+
+pub returns-in_default-clause-goes_on : goal.returns-in_default-clause-goes_on
+returns-in_default-clause-goes_on g c = subst (GoesOn g.D.Disk g.J.Begun.start) (sym c.unserved.ensures.world)
+    (c.begin-begun.ensures.goes_on g.J.Begun.start c.requires.goes_on)
+
+pub returns-in_default-clause-served : goal.returns-in_default-clause-served
+returns-in_default-clause-served g c = c.unserved.ensures.served c.args.given.sizes.conns
+
+pub new-requires-clause-goes_on : goal.new-requires-clause-goes_on
+new-requires-clause-goes_on g c = c.begin-begun.ensures.goes_on g.J.Begun.start c.requires.goes_on
+
+pub returns-clause-served : goal.returns-clause-served
+returns-clause-served g c =
+    let L = g.N.Listener in
+    let net = c.args.given.net in
+    let conns = c.args.given.sizes.conns in
+    let a = c.accept_beside-accepted in
+    let end = c.finish.ensures in
+    let left = sym end.net in
+    record {
+      ledger = end.ledger;
+      differs = end.differs;
+      alive = λ is. (end.done is).0;
+      done = λ is. subst (λ n. (L.given n ≡ L.given net + conns) ⊎ (L.ended n ≡ true)) left
+          (⊎_elim (λ full. inl (a.ensures.given ∙ ap (λ count. L.given net + count) full)) (λ over. inr over) (a.ensures.done (end.done is).1));
+      given = subst (λ n. L.given net ≤ L.given n) left (omega (arith, a.ensures.given));
+      most = subst (λ n. L.given n ≤ L.given net + conns) left (omega (arith, a.ensures.given, a.ensures.most));
+      store = end.store;
+      closed = end.closed;
+      outlet_fault = λ is. subst (λ faults. Rose faults (g.U.Outlet.faults c.finish.result.outlet)) c.requires.outlet (end.outlet_fault is);
+      net_fault = λ is. subst (λ n. Rose (L.faults net) (L.faults n)) left (a.ensures.failed (end.net_fault is));
+      later_outlet = subst (λ faults. faults ≤ g.U.Outlet.faults c.finish.result.outlet) c.requires.outlet end.later;
+      later_net = subst (λ n. L.faults net ≤ L.faults n) left a.ensures.later;
+    }

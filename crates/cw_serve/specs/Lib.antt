@@ -1,0 +1,6 @@
+pub mod Answering
+pub mod Nowhere
+pub mod Sharing
+pub mod Starting
+pub mod Serving
+pub mod Working

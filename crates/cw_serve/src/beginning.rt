@@ -1,0 +1,78 @@
+//! What is made before the first thread.
+ghost use Rattle.std.specs.Prelude.{◌≡◌, ◌+◌, ◌≤◌, vec_len, vec_capacity, IfOk};
+ghost use Rattle.cw_line.specs.Sides.{beginning, name_of};
+
+use crate::crew::Crew;
+use crate::handling::Handler;
+use crate::kept::Kept;
+use crate::naming::Begun;
+use cw_line::{Acceptor, Line};
+use std::alloc::{AllocError, Global};
+use std::sync::ledger::Share;
+
+/// All that takes memory: the handlers, what the calling thread keeps of its own calls, room for what all of them kept,
+/// and when each worker ticked last.
+#[derive(Drop)]
+pub struct Ready<J: Begun, L> {
+    pub crew: Crew<J, L>,
+    pub own: Kept<J>,
+    pub books: Vec<Kept<J>>,
+    pub moments: Vec<u64>,
+}
+
+/// Makes it. Its only error is want of memory.
+pub fn prepare<J: Begun, L>(
+    alloc: Global,
+    line: &Line<L>,
+    acceptor: &mut Acceptor<J, L>,
+    rest: &mut Share<J>,
+    workers: u32,
+    handlers: u32,
+) -> Result<Ready<J, L>, AllocError>
+    requires seat { name_of line.now ≡ J.table }
+    requires most { handlers ≤ 64 }
+    requires acceptor { acceptor.old ≡ beginning }
+    requires share { (rest.old.parts ≡ handlers + 2) × (rest.old.amount ≡ 0) }
+    ensures crew { IfOk result (λ r. (vec_len r.crew.waiting ≡ handlers) × (vec_len r.crew.done ≡ 0)) }
+    ensures books { IfOk result (λ r. (vec_len r.books ≡ 0) × (handlers + 1 ≤ vec_capacity r.books)) }
+    ensures acceptor { IfOk result (λ _. (acceptor.new.parts + handlers ≡ 1024) × (acceptor.new.pushed ≡ 0)) }
+    ensures share { IfOk result (λ _. (rest.new.parts ≡ 1) × (rest.new.amount ≡ 0)) }
+{
+    let own = Kept::new(alloc, rest.split_off(1, 0));
+    let waiting = split(alloc, line, acceptor, rest, handlers)?;
+    let crew = Crew::new(alloc, waiting)?;
+    let books = Vec::with_capacity(alloc, handlers as usize + 1)?;
+    let mut moments = Vec::new(alloc);
+    moments.resize(workers as usize, 0)?;
+    Ok(Ready {
+        crew,
+        own,
+        books,
+        moments,
+    })
+}
+
+// Handlers, each with a side of the line and a part of the ledger.
+fn split<J: Begun, L>(
+    alloc: Global,
+    line: &Line<L>,
+    acceptor: &mut Acceptor<J, L>,
+    rest: &mut Share<J>,
+    handlers: u32,
+) -> Result<Vec<Handler<J, L>>, AllocError>
+    requires seat { name_of line.now ≡ J.table }
+    requires most { handlers ≤ 64 }
+    requires acceptor { acceptor.old ≡ beginning }
+    requires share { (rest.old.parts ≡ handlers + 1) × (rest.old.amount ≡ 0) }
+    ensures handlers { IfOk result (λ made. vec_len made ≡ handlers) }
+    ensures acceptor { IfOk result (λ _. (acceptor.new.parts + handlers ≡ 1024) × (acceptor.new.pushed ≡ 0)) }
+    ensures share { IfOk result (λ _. (rest.new.parts ≡ 1) × (rest.new.amount ≡ 0)) }
+{
+    let mut made = Vec::with_capacity(alloc, handlers as usize)?;
+    for _ in 0..handlers {
+        let taker = acceptor.split(line);
+        let kept = Kept::new(alloc, rest.split_off(1, 0));
+        made.push_reserved(Handler { taker, kept });
+    }
+    Ok(made)
+}

@@ -1,0 +1,37 @@
+//! Connect's distributed mode as a server: workers' herders, task runners, connection handlers and a cleaner, in
+//! threads of their own around one lock.
+//!
+//! Its public contract promises that the world which is given back is one that a run of the model's events reaches from
+//! the world that was handed in, that the receipts of all answered calls are its journal, each entry once, or which one
+//! isn't, and why it ended.
+//! It stands on the turns of `cw_turns`, which are made under the lock, on the line of `cw_line` in which links wait,
+//! on the connections of `cw_conn` and on the desk of `cw_desk`.
+#![tactic(auto)]
+
+mod accepting;
+mod answering;
+mod beginning;
+mod cleaning;
+mod common;
+mod copying;
+mod crew;
+mod desk;
+mod ending;
+mod ends;
+mod handling;
+mod herding;
+mod kept;
+mod named;
+mod naming;
+mod outlet;
+mod polling;
+mod running;
+mod serving;
+mod shared;
+mod sizes;
+mod stepping;
+mod turns;
+
+pub use ends::{ServeEnd, Served};
+pub use serving::serve;
+pub use sizes::Sizes;

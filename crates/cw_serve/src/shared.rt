@@ -1,0 +1,122 @@
+//! What lies under the lock.
+ghost use Rattle.std.specs.Prelude.{◌≡◌, ◌<◌, ◌≤◌, ℕ, [], true, length, None, vec_len, vec_capacity};
+ghost use Rattle.cw_model.specs.Lookups.{row_of};
+ghost use Rattle.cw_turns.specs.Going.{GoesOn};
+
+use crate::naming::Begun;
+use cw_disk::Disk;
+use cw_world::{Receipt, World};
+use std::alloc::Global;
+use std::marker::Model;
+use std::sync::ledger::Book;
+
+/// What made a herder, a task runner or the cleaner stop all of them.
+#[derive(Clone, Copy, Debug, PartialEq, Eq, Drop)]
+pub enum Stop {
+    Memory,
+    OutletFault,
+}
+
+/// The world, the book that counts its journal, room for a receipt of each entry, when each worker ticked last, the
+/// mark that all links were accepted, and the first stop. Clauses see the world, which goes on from where it began.
+#[derive(Drop)]
+pub struct Shared<J: Begun, D: Disk> {
+    pub(crate) world: World<D>,
+    pub(crate) book: Book<J>,
+    pub(crate) room: Vec<Receipt>,
+    pub(crate) moments: Vec<u64>,
+    pub(crate) ended: bool,
+    pub(crate) stop: Option<Stop>,
+}
+
+impl<J: Begun, D: Disk> Model for Shared<J, D> {
+    ghost use Rattle.std.specs.Prelude.{vec_len, vec_capacity};
+    ghost use Rattle.cw_world.specs.World.{WorldState};
+    ghost use Rattle.cw_serve.specs.Sharing.{IsShared, HasRoom};
+
+    ghost Value = { WorldState D };
+
+    ghost view = { λ s. s.world };
+
+    ghost invariant = { λ s. IsShared D.Disk J.start J.workers s.book.total s.world ×
+        HasRoom s.world.state (vec_len s.room) (vec_capacity s.room) };
+}
+
+/// What is left of it.
+#[derive(Drop)]
+pub struct Left<J: Begun, D: Disk> {
+    pub world: World<D>,
+    pub book: Book<J>,
+    pub room: Vec<Receipt>,
+    pub stop: Option<Stop>,
+}
+
+impl<J: Begun, D: Disk> Shared<J, D> {
+    /// Before the threads.
+    pub fn new(alloc: Global, world: World<D>, book: Book<J>, moments: Vec<u64>) -> Shared<J, D>
+        requires goes_on { GoesOn D.Disk J.start world }
+        requires live { (w : ℕ) → w < J.workers → (row_of w world.state).live ≡ true }
+        requires journal { (world.state.journal ≡ []) × (book.total ≡ 0) }
+    {
+        Shared {
+            world,
+            book,
+            room: Vec::new(alloc),
+            moments,
+            ended: false,
+            stop: None,
+        }
+    }
+
+    /// Whether herders, task runners and the cleaner go on: not all links were accepted, none of them stopped all, and
+    /// no disk failed.
+    pub fn goes_on(&self) -> bool
+        ensures { result ≡ true → self.now.state.closed ≡ None }
+    {
+        !self.ended && self.stop.is_none() && self.world.cluster().closed().is_none()
+    }
+
+    /// Whether all links were accepted.
+    pub fn has_ended(&self) -> bool {
+        self.ended
+    }
+
+    /// All links were accepted.
+    pub fn end(&mut self)
+        ensures { self.new ≡ self.old }
+    {
+        self.ended = true;
+    }
+
+    /// Stops herders, task runners and the cleaner. The first stop is kept.
+    pub fn stop_for(&mut self, stop: Stop)
+        ensures { self.new ≡ self.old }
+    {
+        if self.stop.is_none() {
+            self.stop = Some(stop);
+        }
+    }
+
+    /// What is known of it behind the joins.
+    pub fn into_left(self) -> Left<J, D>
+        ensures world { result.world ≡ self }
+        ensures goes_on { GoesOn D.Disk J.start result.world }
+        ensures counted { length result.world.state.journal ≡ result.book.total }
+        ensures room { (vec_len result.room ≡ 0) × (result.book.total ≤ vec_capacity result.room) }
+    {
+        let Shared {
+            world,
+            book,
+            room,
+            moments: _,
+            ended: _,
+            stop,
+        } = self;
+        Left {
+            world,
+            book,
+            room,
+            stop,
+        }
+    }
+}

@@ -1,0 +1,144 @@
+//! The turns of herders and of the cleaner under the lock.
+ghost use Rattle.std.specs.Prelude.{◌≡◌};
+ghost use Rattle.cw_model.specs.EventsCompaction.{MayCompact};
+ghost use Rattle.cw_desk.specs.Keeping.{KeepsJournal};
+
+use crate::naming::Begun;
+use crate::shared::{Shared, Stop};
+use cw_disk::Disk;
+use cw_model::{Tick, WorldFault};
+use cw_rows::Cluster;
+use cw_types::LogName;
+use cw_world::World;
+use std::alloc::Global;
+
+// How long a member may be without a tick, in milliseconds (Kafka Connect's session.timeout.ms).
+const SESSION: u64 = 10_000;
+
+// The length in bytes from which on a log is compacted.
+const WORTH_COMPACTING: u64 = 1_048_576;
+
+/// What a herder's turn came to.
+#[derive(Clone, Copy, Debug, PartialEq, Eq, Drop)]
+pub enum Herded {
+    /// The server ends.
+    Over,
+    /// There was nothing to do.
+    Idle,
+    /// A member that was gone too long was let go.
+    Expired,
+    /// The worker ticked, and did something.
+    Ticked,
+}
+
+/// What the cleaner's turn came to.
+#[derive(Clone, Copy, Debug, PartialEq, Eq, Drop)]
+pub enum Cleaned {
+    /// The server ends.
+    Over,
+    /// The log isn't worth compacting, or can't be.
+    Idle,
+    /// The log was compacted, and now has so many bytes.
+    Compacted(u64),
+}
+
+impl<J: Begun, D: Disk> Shared<J, D> {
+    /// A herder's turn: the group lets a member go whose last tick is too long ago; else the worker ticks.
+    pub fn herd(&mut self, alloc: Global, w: u32, now: u64) -> Herded
+        ensures { KeepsJournal self.old.state self.new.state }
+    {
+        if !self.goes_on() || !self.world.cluster().has_worker(w) {
+            return Herded::Over;
+        }
+        if let Some(member) = late_member(self.world.cluster(), &self.moments, now) {
+            return after_expiry(cw_turns::expire(&mut self.world, member, now));
+        }
+        note(&mut self.moments, w, now);
+        let ticked = cw_turns::herd(alloc, &mut self.world, w, now);
+        after_tick(&mut self.stop, ticked)
+    }
+
+    /// The cleaner's turn: a log is compacted that is long, and twice as long as it was behind its last compaction.
+    pub fn clean(&mut self, log: LogName, last: u64) -> Cleaned
+        requires { MayCompact log }
+        ensures { KeepsJournal self.old.state self.new.state }
+    {
+        if !self.goes_on() {
+            return Cleaned::Over;
+        }
+        let bytes = self.world.log_size(log).1;
+        if bytes < WORTH_COMPACTING || bytes / 2 < last {
+            return Cleaned::Idle;
+        }
+        let compacted = cw_turns::compact(&mut self.world, log);
+        after_compaction(&mut self.stop, &self.world, log, compacted)
+    }
+}
+
+// The first member whose last tick is too long ago.
+fn late_member(cluster: &Cluster, moments: &[u64], now: u64) -> Option<u32> {
+    for w in 0..cluster.workers() {
+        if cluster.group().incarnation(w).is_some() && is_late(moments, w, now) {
+            return Some(w);
+        }
+    }
+    None
+}
+
+// Whether a worker's last tick is too long ago.
+fn is_late(moments: &[u64], w: u32, now: u64) -> bool {
+    match moments.get(w as usize) {
+        Some(moment) => now.saturating_sub(*moment) > SESSION,
+        None => false,
+    }
+}
+
+// Notes that a worker ticks.
+fn note(moments: &mut [u64], w: u32, now: u64) {
+    if let Some(moment) = moments.get_mut(w as usize) {
+        *moment = now;
+    }
+}
+
+// What an expiry came to.
+fn after_expiry(done: Result<(), WorldFault>) -> Herded {
+    match done {
+        Ok(()) => Herded::Expired,
+        Err(_) => Herded::Idle,
+    }
+}
+
+// What a tick came to. Want of memory stops the server; other faults are dropped.
+fn after_tick(stop: &mut Option<Stop>, ticked: Result<Tick, WorldFault>) -> Herded {
+    match ticked {
+        Ok(Tick::Idle) | Ok(Tick::Dead) => Herded::Idle,
+        Ok(_) => Herded::Ticked,
+        Err(fault) => {
+            keep(stop, &fault);
+            Herded::Idle
+        }
+    }
+}
+
+// What a compaction came to.
+fn after_compaction<D: Disk>(
+    stop: &mut Option<Stop>,
+    world: &World<D>,
+    log: LogName,
+    compacted: Result<(u64, u64), WorldFault>,
+) -> Cleaned {
+    match compacted {
+        Ok(_) => Cleaned::Compacted(world.log_size(log).1),
+        Err(fault) => {
+            keep(stop, &fault);
+            Cleaned::Idle
+        }
+    }
+}
+
+/// Keeps the first want of memory. A failed disk needs no keeping, since the world is closed then.
+pub(crate) fn keep(stop: &mut Option<Stop>, fault: &WorldFault) {
+    if stop.is_none() && matches!(fault, WorldFault::Memory) {
+        *stop = Some(Stop::Memory);
+    }
+}
