@@ -1,13 +1,14 @@
 //! `connect`: Kafka Connect's distributed mode over logs on files.
 //!
-//! `main` makes the adapters over the standard streams and over the folders `connect-data`, `feeds` and `out`, and
-//! makes the top call, whose contract is the theorem of the whole program; it exits with the number of the call's
-//! status. It stands on cw_connect, and on the crates of the adapters.
+//! `main` makes the adapters over the standard streams, over the folders `connect-data`, `feeds` and `out`, over the port
+//! and over the system's clock, and makes the top call, whose contract is the theorem of the whole program; it exits
+//! with the number of the call's status. It stands on cw_connect, and on the crates of the adapters.
 #![tactic(auto)]
 
 use cw_connect::{Status, connect, exit_number, status_of_fault};
 use cw_disk::Disks;
 use cw_io::{FolderOutlet, FolderShelf, ReaderSource, WriterSink};
+use cw_net::{OpenGate, PortListener, SystemClock};
 use std::env::Env;
 use std::fs::{File, Files};
 use std::process::ExitCode;
@@ -31,6 +32,9 @@ fn main(rt: HostRuntime) -> ExitCode {
                 &mut output,
                 &mut shelf,
                 outlet,
+                PortListener::new(&rt),
+                SystemClock::new(&rt),
+                &OpenGate,
             )
             .status
         }

@@ -7,3 +7,4 @@ pub mod Reported
 pub mod Generated
 pub mod Runs
 pub mod FirstHarm
+pub mod Server

@@ -27,6 +27,10 @@ module _ (damaged : DiskName → ℕ → Harm → Type 0) (failed : DiskName →
 pub rose_from : (before mid now : ℕ) → before ≤ mid → Rose mid now → Rose before now
 rose_from before mid now later rose = omega (arith, later, rose)
 
+-- a count that fell at neither of two steps fell nowhere
+pub later_from : (before mid now : ℕ) → before ≤ mid → mid ≤ now → before ≤ now
+later_from before mid now first second = omega (arith, first, second)
+
 -- a script that ended
 module _ (read written : Type 0) (old new : Faults) where
   pub ended_store : (e : DriveEnd) → Caused read written old new e → (disk : DiskName) (count : ℕ) → status_of_end e ≡ StoreFault disk count → HasRisen (old.disks disk) (new.disks disk) count

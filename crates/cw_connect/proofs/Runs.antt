@@ -29,7 +29,7 @@ use Rattle.cw_connect.specs.Opening.{IsSetFor, IsOpenedFrom}
 use Rattle.cw_connect.specs.Outcomes.{Leaves, IsRun, IsRefusedFor}
 use Rattle.cw_connect.specs.Statuses.{status_of_end}
 use Rattle.cw_connect.specs.declared.status.Status.{Status}
-use Rattle.cw_connect.specs.declared.status.Status.TheVariants.{Done, Usage, BadScript, TooLong, ReadFault, WriteFault, StoreFault, Damaged, ShelfFault, OutletFault, Full, Memory}
+use Rattle.cw_connect.specs.declared.status.Status.TheVariants.{Done, Usage, BadScript, TooLong, ReadFault, WriteFault, StoreFault, Damaged, ShelfFault, OutletFault, NetFault, Full, Memory, Disagree}
 use Rattle.cw_connect.proofs.FirstHarm.{first_harm_is_one}
 use Rattle.cw_connect.proofs.Opened.{stand_for_lists}
 
@@ -46,7 +46,9 @@ IsDoneUnlessFailed Usage = ⊥
 IsDoneUnlessFailed (Damaged disk at harm) = ⊥
 IsDoneUnlessFailed (BadScript line kind) = ⊥
 IsDoneUnlessFailed (TooLong count) = ⊥
+IsDoneUnlessFailed NetFault = ⊥
 IsDoneUnlessFailed (Full log length frame) = ⊥
+IsDoneUnlessFailed (Disagree at kept found) = ⊥
 
 -- and no object failed
 pub calm : (status : Status) → IsDoneUnlessFailed status → (status ≡ ReadFault → ⊥) → (status ≡ WriteFault → ⊥) → (status ≡ ShelfFault → ⊥) → (status ≡ OutletFault → ⊥) →
@@ -62,6 +64,8 @@ calm Usage done no_read no_write no_shelf no_outlet no_store = absurd done
 calm (Damaged disk at harm) done no_read no_write no_shelf no_outlet no_store = absurd done
 calm (BadScript line kind) done no_read no_write no_shelf no_outlet no_store = absurd done
 calm (TooLong count) done no_read no_write no_shelf no_outlet no_store = absurd done
+calm NetFault done no_read no_write no_shelf no_outlet no_store = absurd done
+calm (Disagree at kept found) done no_read no_write no_shelf no_outlet no_store = absurd done
 calm (Full log length frame) done no_read no_write no_shelf no_outlet no_store = absurd done
 
 no_stop : (e : DriveEnd) → Some e ≡ None → ⊥
@@ -73,7 +77,7 @@ same_options asked a b command one is two = cc
 
 -- where no cluster was opened, the disks were refused for their first harm
 module _ {D : Type 0} (G : Ghosts D) (old new : Disks D) where
-  refused_by : (at : DiskName) (place : ℕ) (harm : Harm) (status : Status) → Leaves G status old new → ((disk : DiskName) (gate : ℕ) (what : Harm) → status ≡ Damaged disk gate what → (disk ≡ at) × (gate ≡ place) × (what ≡ harm)) →
+  pub refused_by : (at : DiskName) (place : ℕ) (harm : Harm) (status : Status) → Leaves G status old new → ((disk : DiskName) (gate : ℕ) (what : Harm) → status ≡ Damaged disk gate what → (disk ≡ at) × (gate ≡ place) × (what ≡ harm)) →
       IsRefusedFor at place harm status
   refused_by at place harm (Damaged disk gate what) left one = one disk gate what refl
   refused_by at place harm (StoreFault disk count) left one = tt
@@ -86,7 +90,9 @@ module _ {D : Type 0} (G : Ghosts D) (old new : Disks D) where
   refused_by at place harm ReadFault left one = left
   refused_by at place harm WriteFault left one = left
   refused_by at place harm OutletFault left one = left
+  refused_by at place harm NetFault left one = left
   refused_by at place harm (Full log length frame) left one = left
+  refused_by at place harm (Disagree number kept found) left one = left
 
   -- and where they have no harm, an object failed or memory was wanting
   refused_unharmed : (status : Status) → Leaves G status old new → ((disk : DiskName) (at : ℕ) (harm : Harm) → status ≡ Damaged disk at harm → ⊥) → IsDoneUnlessFailed status
@@ -101,7 +107,9 @@ module _ {D : Type 0} (G : Ghosts D) (old new : Disks D) where
   refused_unharmed ReadFault left unharmed = absurd left
   refused_unharmed WriteFault left unharmed = absurd left
   refused_unharmed OutletFault left unharmed = absurd left
+  refused_unharmed NetFault left unharmed = absurd left
   refused_unharmed (Full log length frame) left unharmed = absurd left
+  refused_unharmed (Disagree at kept found) left unharmed = absurd left
 
   pub not_done : (status : Status) → Leaves G status old new → status ≡ Done → ⊥
   not_done status left is = subst (λ (s : Status). Leaves G s old new) is left

@@ -13,8 +13,8 @@ use Rattle.cw_open.specs.OpenedFrom.{DisksStay}
 use Rattle.cw_words.specs.declared.command.Options.{Options}
 use Rattle.cw_connect.specs.declared.status.Status.{Status}
 use Rattle.cw_connect.specs.declared.status.Status.TheVariants.{Done, Usage, BadScript, TooLong, ReadFault, WriteFault}
-use Rattle.cw_connect.specs.declared.status.Status.TheVariants.{StoreFault, Damaged, ShelfFault, OutletFault, Full}
-use Rattle.cw_connect.specs.declared.status.Status.TheVariants.{Memory}
+use Rattle.cw_connect.specs.declared.status.Status.TheVariants.{StoreFault, Damaged, ShelfFault, OutletFault, NetFault}
+use Rattle.cw_connect.specs.declared.status.Status.TheVariants.{Full, Memory, Disagree}
 
 -- a fact of the report on the state that the disks held and on the feeds that were loaded, which are those of the
 -- shelf, where it tells them
@@ -42,4 +42,6 @@ IsAudited G o S options (BadScript line kind) on out_old out_new old new = ⊥
 IsAudited G o S options (TooLong count) on out_old out_new old new = ⊥
 IsAudited G o S options ReadFault on out_old out_new old new = ⊥
 IsAudited G o S options OutletFault on out_old out_new old new = ⊥
+IsAudited G o S options NetFault on out_old out_new old new = ⊥
 IsAudited G o S options (Full log length frame) on out_old out_new old new = ⊥
+IsAudited G o S options (Disagree at kept found) on out_old out_new old new = ⊥

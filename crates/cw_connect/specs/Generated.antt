@@ -11,8 +11,8 @@ use Rattle.cw_model.specs.State.{Cluster}
 use Rattle.cw_words.specs.declared.command.GenOptions.{GenOptions}
 use Rattle.cw_connect.specs.declared.status.Status.{Status}
 use Rattle.cw_connect.specs.declared.status.Status.TheVariants.{Done, Usage, BadScript, TooLong, ReadFault, WriteFault}
-use Rattle.cw_connect.specs.declared.status.Status.TheVariants.{StoreFault, Damaged, ShelfFault, OutletFault, Full}
-use Rattle.cw_connect.specs.declared.status.Status.TheVariants.{Memory}
+use Rattle.cw_connect.specs.declared.status.Status.TheVariants.{StoreFault, Damaged, ShelfFault, OutletFault, NetFault}
+use Rattle.cw_connect.specs.declared.status.Status.TheVariants.{Full, Memory, Disagree}
 
 -- the run of the script that the words ask for, over empty logs
 abbrev pub run_asked : GenOptions → Played Cluster
@@ -44,3 +44,5 @@ IsGenerated o options (StoreFault disk count) out_old out_new = ⊥
 IsGenerated o options (Damaged disk at harm) out_old out_new = ⊥
 IsGenerated o options ShelfFault out_old out_new = ⊥
 IsGenerated o options OutletFault out_old out_new = ⊥
+IsGenerated o options NetFault out_old out_new = ⊥
+IsGenerated o options (Disagree at kept found) out_old out_new = ⊥

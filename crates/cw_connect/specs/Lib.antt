@@ -4,4 +4,5 @@ pub mod Outcomes
 pub mod Making
 pub mod Audited
 pub mod Generated
+pub mod Served
 pub mod Ended

@@ -22,8 +22,8 @@ use Rattle.cw_connect.specs.Opening.{IsSetFor, IsOpenedFrom}
 use Rattle.cw_connect.specs.Statuses.{status_of_end}
 use Rattle.cw_connect.specs.declared.status.Status.{Status}
 use Rattle.cw_connect.specs.declared.status.Status.TheVariants.{Done, Usage, BadScript, TooLong, ReadFault, WriteFault}
-use Rattle.cw_connect.specs.declared.status.Status.TheVariants.{StoreFault, Damaged, ShelfFault, OutletFault, Full}
-use Rattle.cw_connect.specs.declared.status.Status.TheVariants.{Memory}
+use Rattle.cw_connect.specs.declared.status.Status.TheVariants.{StoreFault, Damaged, ShelfFault, OutletFault, NetFault}
+use Rattle.cw_connect.specs.declared.status.Status.TheVariants.{Full, Memory, Disagree}
 
 -- what was left of the disks where the run ended before a cluster was opened: where the shelf failed they weren't
 -- touched, and else a stop leaves of each what it might have left before, or a file of the same list
@@ -39,7 +39,9 @@ Leaves G (TooLong count) old new = ⊥
 Leaves G ReadFault old new = ⊥
 Leaves G WriteFault old new = ⊥
 Leaves G OutletFault old new = ⊥
+Leaves G NetFault old new = ⊥
 Leaves G (Full log length frame) old new = ⊥
+Leaves G (Disagree at kept found) old new = ⊥
 
 -- no cluster was opened: nothing was read, written or handed out
 pub record IsNotOpened {D : Type 0} (G : Ghosts D) (status : Status) (untouched : Type 0) (old new : Disks D) : Type 0
@@ -83,4 +85,6 @@ IsRefusedFor at place harm (TooLong count) = ⊥
 IsRefusedFor at place harm ReadFault = ⊥
 IsRefusedFor at place harm WriteFault = ⊥
 IsRefusedFor at place harm OutletFault = ⊥
+IsRefusedFor at place harm NetFault = ⊥
 IsRefusedFor at place harm (Full log length frame) = ⊥
+IsRefusedFor at place harm (Disagree number kept found) = ⊥

@@ -11,12 +11,14 @@ use Rattle.cw_lines.specs.declared.end.DriveEnd.TheVariants as end
 use Rattle.cw_open.specs.declared.reopen_fault.ReopenCause.{ReopenCause}
 use Rattle.cw_open.specs.declared.reopen_fault.ReopenCause.TheVariants as cause
 use Rattle.cw_script.specs.Faults.{kind_text}
+use Rattle.cw_serve.specs.declared.ends.ServeEnd.{ServeEnd}
+use Rattle.cw_serve.specs.declared.ends.ServeEnd.TheVariants as serve
 use Rattle.cw_words.specs.declared.command.WordsFault.{WordsFault}
 use Rattle.cw_words.specs.declared.command.WordsFault.TheVariants as words
 use Rattle.cw_connect.specs.declared.status.Status.{Status}
 use Rattle.cw_connect.specs.declared.status.Status.TheVariants.{Done, Usage, BadScript, TooLong, ReadFault, WriteFault}
-use Rattle.cw_connect.specs.declared.status.Status.TheVariants.{StoreFault, Damaged, ShelfFault, OutletFault, Full}
-use Rattle.cw_connect.specs.declared.status.Status.TheVariants.{Memory}
+use Rattle.cw_connect.specs.declared.status.Status.TheVariants.{StoreFault, Damaged, ShelfFault, OutletFault, NetFault}
+use Rattle.cw_connect.specs.declared.status.Status.TheVariants.{Full, Memory, Disagree}
 
 -- the exit status
 abbrev pub status_number : Status → ℕ
@@ -30,8 +32,10 @@ status_number (StoreFault disk count) = 5
 status_number (Damaged disk at harm) = 6
 status_number ShelfFault = 7
 status_number OutletFault = 8
+status_number NetFault = 9
 status_number (Full log length frame) = 10
 status_number Memory = 11
+status_number (Disagree at kept found) = 12
 
 -- the words on standard error
 abbrev pub status_text : Status → List ℕ
@@ -45,8 +49,10 @@ status_text (StoreFault disk count) = codes "status 5 StoreFault"
 status_text (Damaged disk at harm) = codes "status 6 Damaged"
 status_text ShelfFault = codes "status 7 ShelfFault"
 status_text OutletFault = codes "status 8 OutletFault"
+status_text NetFault = codes "status 9 NetFault"
 status_text (Full log length frame) = codes "status 10 Full"
 status_text Memory = codes "status 11 Memory"
+status_text (Disagree at kept found) = codes "status 12 Disagree"
 
 -- the line with them, none at Done
 abbrev pub status_line : Status → List ℕ
@@ -102,3 +108,12 @@ status_of_gen gen.Done = Done
 status_of_gen gen.WriteFault = WriteFault
 status_of_gen (gen.Full log length frame) = Full log length frame
 status_of_gen gen.Memory = Memory
+
+-- a server that ended
+abbrev pub status_of_serve : ServeEnd → Status
+status_of_serve serve.Done = Done
+status_of_serve (serve.StoreFault disk count) = StoreFault disk count
+status_of_serve serve.OutletFault = OutletFault
+status_of_serve serve.NetFault = NetFault
+status_of_serve serve.Memory = Memory
+status_of_serve (serve.Disagree d) = Disagree d.at d.kept d.found

@@ -6,18 +6,27 @@ ghost use Rattle.cw_open.specs.Reopened.{DiskFiles, FailedAt, NoneFell, TellAll}
 ghost use Rattle.cw_types.specs.Faults.{Rose};
 ghost use Rattle.cw_types.specs.declared.logs.DiskName.{DiskName};
 ghost use Rattle.cw_connect.specs.declared.status.Status.TheVariants.{Done, Usage, ReadFault, WriteFault, StoreFault};
-ghost use Rattle.cw_connect.specs.declared.status.Status.TheVariants.{Damaged, ShelfFault, OutletFault};
+ghost use Rattle.cw_connect.specs.declared.status.Status.TheVariants.{Damaged, ShelfFault, OutletFault, NetFault};
 ghost use Rattle.cw_connect.specs.Making.{AreMade, AreUnmade};
 ghost use Rattle.cw_connect.specs.Outcomes.{IsRun};
 
 use crate::opening::open_cluster;
 use crate::status::Status;
-use crate::top::Outcome;
 use cw_cluster::{Driven, drive};
 use cw_disk::{Disk, Disks};
 use cw_io::{Outlet, Shelf, Sink, Source};
 use cw_words::Options;
 use std::alloc::Global;
+
+/// What a script that was played leaves.
+pub(crate) struct Played<D, U> {
+    /// How the run ends.
+    pub(crate) status: Status,
+    /// The disks that were handed in.
+    pub(crate) disks: Disks<D>,
+    /// The outlet that was handed in.
+    pub(crate) outlet: U,
+}
 
 /// Opens the cluster, and plays the script over it.
 pub(crate) fn open_and_drive<D: Disk, I: Source, O: Sink, H: Shelf, U: Outlet>(
@@ -28,12 +37,13 @@ pub(crate) fn open_and_drive<D: Disk, I: Source, O: Sink, H: Shelf, U: Outlet>(
     output: &mut O,
     shelf: &mut H,
     outlet: U,
-) -> Outcome<D, U>
+) -> Played<D, U>
     ensures runs { IsRun D.Disk I.Source O.Sink H.Shelf U.Outlet options result.status shelf.old input.old input.new
         output.old output.new disks result.disks outlet result.outlet }
     ensures makes { I.left input.old ≡ Some [] → result.status ≡ Done → (files : DiskFiles) →
         TellAll D.Disk disks files → AreUnmade files → AreMade D.Disk files result.disks }
     ensures never_usage { ¬ (result.status ≡ Usage) }
+    ensures never_net { ¬ (result.status ≡ NetFault) }
     ensures damaged_only { (disk : DiskName) (at : ℕ) (harm : Harm) → result.status ≡ Damaged disk at harm →
         (files : DiskFiles) → TellAll D.Disk disks files → HasFirstHarm files disk at harm }
     ensures store_fault { (disk : DiskName) (count : ℕ) → result.status ≡ StoreFault disk count →
@@ -51,13 +61,13 @@ pub(crate) fn open_and_drive<D: Disk, I: Source, O: Sink, H: Shelf, U: Outlet>(
     match open_cluster(alloc, options, disks, shelf) {
         Ok(world) => {
             let Driven { end, disks, outlet } = drive(alloc, world, outlet, input, output);
-            Outcome {
+            Played {
                 status: Status::of_end(end),
                 disks,
                 outlet,
             }
         }
-        Err(refusal) => Outcome {
+        Err(refusal) => Played {
             status: refusal.status,
             disks: refusal.disks,
             outlet,

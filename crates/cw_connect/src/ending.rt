@@ -49,8 +49,10 @@ fn tell<E: Sink>(status: &Status, errors: &mut E) -> Result<(), Failed>
         Status::Damaged { .. } => write_all(errors, b"status 6 Damaged\n"),
         Status::ShelfFault => write_all(errors, b"status 7 ShelfFault\n"),
         Status::OutletFault => write_all(errors, b"status 8 OutletFault\n"),
+        Status::NetFault => write_all(errors, b"status 9 NetFault\n"),
         Status::Full { .. } => write_all(errors, b"status 10 Full\n"),
         Status::Memory => write_all(errors, b"status 11 Memory\n"),
+        Status::Disagree { .. } => write_all(errors, b"status 12 Disagree\n"),
     }
 }
 

@@ -1,22 +1,26 @@
 //! How a run of the program ended.
 ghost use Rattle.std.specs.Prelude.{◌≡◌};
 ghost use Rattle.cw_connect.specs.Statuses.{status_number, status_of_audit, status_of_cause, status_of_end};
-ghost use Rattle.cw_connect.specs.Statuses.{status_of_gen, status_of_shelf, status_of_words};
+ghost use Rattle.cw_connect.specs.Statuses.{status_of_gen, status_of_serve, status_of_shelf, status_of_words};
 
 use cw_audit::AuditEnd;
 use cw_cluster::DriveEnd;
+use cw_desk::{Disagree, Member};
 use cw_gen::GenEnd;
 use cw_io::ShelfFault;
 use cw_log::Harm;
 use cw_open::ReopenCause;
 use cw_script::LineKind;
+use cw_serve::ServeEnd;
 use cw_types::{DiskName, LogName};
 use cw_words::WordsFault;
+use cw_world::Receipt;
 
 /// How a run ended. `main` exits with the status's number.
-#[derive(Clone, Copy, Debug, PartialEq, Eq, Drop)]
+#[derive(Drop)]
 pub enum Status {
-    /// The input was read to its end and every directive was answered, or the whole report or summary was written.
+    /// The input was read to its end and every directive was answered, or the whole report or summary was written, or
+    /// the listener gave as many links as the words ask for, or ended, and all were served.
     Done,
     /// The words aren't a command.
     Usage,
@@ -54,6 +58,8 @@ pub enum Status {
     ShelfFault,
     /// What a sink's task handed out couldn't be written.
     OutletFault,
+    /// The listener failed.
+    NetFault,
     /// A log has no room for the event in hand, of no request: `length + frame` passes 2^28, or a record's offset
     /// would pass 2^64 - 1.
     Full {
@@ -66,6 +72,15 @@ pub enum Status {
     },
     /// Want of memory.
     Memory,
+    /// A receipt of an answered call isn't the journal's entry of its number, or it is one of two of that number.
+    Disagree {
+        /// The number.
+        at: u64,
+        /// The receipt that was kept.
+        kept: Receipt,
+        /// What is found in place of its entry; None where the journal has no entry of its number.
+        found: Option<Member>,
+    },
 }
 
 impl Status {
@@ -84,8 +99,10 @@ impl Status {
             Status::Damaged { .. } => 6,
             Status::ShelfFault => 7,
             Status::OutletFault => 8,
+            Status::NetFault => 9,
             Status::Full { .. } => 10,
             Status::Memory => 11,
+            Status::Disagree { .. } => 12,
         }
     }
 
@@ -159,6 +176,24 @@ impl Status {
             DriveEnd::OutletFault => Status::OutletFault,
             DriveEnd::Full { log, length, frame } => Status::Full { log, length, frame },
             DriveEnd::Memory => Status::Memory,
+        }
+    }
+
+    /// How a run ends whose server ended so.
+    pub(crate) fn of_serve(end: ServeEnd) -> Status
+        ensures { result ≡ status_of_serve end }
+    {
+        match end {
+            ServeEnd::Done => Status::Done,
+            ServeEnd::StoreFault { disk, count } => Status::StoreFault { disk, count },
+            ServeEnd::OutletFault => Status::OutletFault,
+            ServeEnd::NetFault => Status::NetFault,
+            ServeEnd::Memory => Status::Memory,
+            ServeEnd::Disagree(Disagree { at, kept, found }) => Status::Disagree {
+                at,
+                kept,
+                found,
+            },
         }
     }
 }

@@ -1,13 +1,17 @@
 -- What a parse of the program's words says of the command that they are.
-use Rattle.std.proofs.Common.{◌≡◌, ◌∙◌, true, refl, sym, ap, subst, List, [], ◌∷◌, Option, Some, None, Result, Ok, Err, IfOk, inl, inr, true≢false, Bool, false}
+use Rattle.std.proofs.Common.{◌≡◌, ◌∙◌, codes, cond, option_map, true, refl, sym, ap, ap₂, subst, List, [], ◌∷◌, Option, Some, None, Result, Ok, Err, IfOk, inl, inr, true≢false, Bool, false}
 use Rattle.clap.proofs.OnLiterals.{clap_on_literals}
-use Rattle.clap.specs.Words.{App, HasMatchesOf, HasKind, IsAmong, Kinds, Text, fault_of, is_simple, is_simple_and_free, kind_of, subcommand_of, subcommand_rows_of}
+use Rattle.clap.specs.Words.{App, HasMatchesOf, HasKind, IsAmong, Kinds, Text, fault_of, is_simple, is_simple_and_free, kind_of, subcommand_name_of, subcommand_of, subcommand_rows_of, Row}
+use Rattle.std.specs.Str.{bytes_eq}
 use Rattle.clap.specs.declared.error.Error.{Error}
 use Rattle.clap.specs.declared.error.kind.ErrorKind.{ErrorKind}
 use Rattle.clap.specs.declared.error.kind.ErrorKind.TheVariants.{OutOfMemory}
 use Rattle.clap.specs.declared.parser.matches.ArgMatches.{ArgMatches}
 use Rattle.cw_types.specs.Answers.{Gives}
-use Rattle.cw_words.specs.Asked.{command_in, command_of, or_usage, unless_fault}
+use Rattle.clap.specs.Simple.{subcommand_rows}
+use Rattle.cw_words.specs.declared.command.Command.TheVariants.{Audit, Drive}
+use Rattle.clap.specs.declared.parser.matches.ArgMatches.TheViews.{out-ArgMatches}
+use Rattle.cw_words.specs.Asked.{command_in, command_of, numbered_command_named, options_of, or_usage, unless_fault}
 use Rattle.cw_words.specs.Program.{program}
 use Rattle.cw_words.specs.declared.command.Command.{Command}
 use Rattle.cw_words.specs.declared.command.WordsFault.{WordsFault}
@@ -73,3 +77,41 @@ pub is_unasked : (r : Result Command WordsFault) (o p : Option Command) → o �
 is_unasked (Ok command) o p is h usage = absurd (true≢false (sym (ap fails_by_usage usage)))
 is_unasked (Err fault) (Some x) p is h usage = absurd (true≢false (ap is_ok (h (not_both fault usage))))
 is_unasked (Err fault) None p is h usage = sym is
+
+-- ---- a subcommand that takes numbers of its own
+
+fst_of : {B : Type 0} (f : B → Text) (g : B → List Row) (o : Option B)
+    → option_map f o ≡ option_map {T = Text × List Row} (λ p. p.0) (option_map (λ b. (f b, g b)) o)
+fst_of f g None = refl
+fst_of f g (Some b) = refl
+
+abbrev is_there : {A : Type 0} → Option A → Bool
+is_there (Some x) = true
+is_there None = false
+
+abbrev or : {A : Type 0} → A → Option A → A
+or d (Some x) = x
+or d None = d
+
+both : (o : Option (Text × List Row)) (name : Text) (rows : List Row) → Some name ≡ option_map (λ p. p.0) o
+    → Some rows ≡ option_map (λ p. p.1) o → o ≡ Some (name, rows)
+both (Some p) name rows n r = ap Some (ap₂ (λ a b. (a, b)) (ap (or p.0) (sym n)) (ap (or p.1) (sym r)))
+both None name rows n r = absurd (true≢false (ap is_there n))
+
+named : (name : Text) (rows : List Row) (r : Result Command WordsFault) (d a : Bool) → false ≡ d → false ≡ a
+    → Gives Memory r (or_usage (numbered_command_named (name, rows)))
+    → Gives Memory r (or_usage (cond d (option_map Drive (options_of rows)) (cond a (option_map Audit (options_of rows))
+    (numbered_command_named (name, rows)))))
+named name rows r false false d a h = h
+named name rows r true a d e h = absurd (true≢false (sym d))
+named name rows r false true d e h = absurd (true≢false (sym e))
+
+pub numbered : (m : ArgMatches) (name : Text) (rows : List Row) (r : Result Command WordsFault)
+    → Some name ≡ subcommand_name_of m → Some rows ≡ option_map (λ p. p.1) (subcommand_rows (out-ArgMatches m).subcommand)
+    → false ≡ bytes_eq name (codes "drive") → false ≡ bytes_eq name (codes "audit")
+    → Gives Memory r (or_usage (numbered_command_named (name, rows)))
+    → Gives Memory r (or_usage (command_in (subcommand_rows_of m)))
+numbered m name rows r n w drive audit h =
+    let found = both (subcommand_rows_of m) name rows (n ∙ fst_of _ _ (out-ArgMatches m).subcommand) w in
+    subst (λ o. Gives Memory r (or_usage (command_in o))) (sym found)
+    (named name rows r (bytes_eq name (codes "drive")) (bytes_eq name (codes "audit")) drive audit h)

@@ -8,9 +8,10 @@ use Rattle.cw_types.specs.Decimal.{number_of}
 use Rattle.cw_types.specs.Name.{name_of}
 use Rattle.cw_words.specs.Program.{program}
 use Rattle.cw_words.specs.declared.command.Command.{Command}
-use Rattle.cw_words.specs.declared.command.Command.TheVariants.{Drive, Audit, Gen}
+use Rattle.cw_words.specs.declared.command.Command.TheVariants.{Drive, Audit, Gen, Serve}
 use Rattle.cw_words.specs.declared.command.GenOptions.{GenOptions}
 use Rattle.cw_words.specs.declared.command.Options.{Options}
+use Rattle.cw_words.specs.declared.command.ServeOptions.{ServeOptions}
 use Rattle.cw_words.specs.declared.command.WordsFault.{WordsFault}
 use Rattle.cw_words.specs.declared.command.WordsFault.TheVariants.{Usage}
 
@@ -51,11 +52,47 @@ script_of shared rows = option_and_then (λ start. option_map (λ count. record 
 abbrev pub gen_options_of : List Row → Option GenOptions
 gen_options_of rows = option_and_then (λ shared. script_of shared rows) (options_of rows)
 
+-- the most workers, and the most threads of a kind
+abbrev pub most_threads : ℕ
+most_threads = 64
+
+-- the most connections that a server accepts
+abbrev pub most_conns : ℕ
+most_conns = 10000
+
+-- how many workers or threads of a kind are asked for
+abbrev pub threads_in : Text → List Row → Option ℕ
+threads_in id rows = number_in 1 most_threads id rows
+
+-- with how many connections
+abbrev pub with_conns : (workers runners handlers : ℕ) → Options → List Row → Option ServeOptions
+with_conns workers runners handlers shared rows = option_map (λ conns. record {
+  workers = workers;
+  runners = runners;
+  handlers = handlers;
+  conns = conns;
+  shared = shared;
+}) (number_in 1 most_conns (codes "conns") rows)
+
+-- how large the server is to be, with what every command takes
+abbrev pub sizes_of : Options → List Row → Option ServeOptions
+sizes_of shared rows = option_and_then (λ workers. option_and_then (λ runners. option_and_then (λ handlers.
+    with_conns workers runners handlers shared rows) (threads_in (codes "handlers") rows))
+    (threads_in (codes "runners") rows)) (threads_in (codes "workers") rows)
+
+-- what `serve` takes
+abbrev pub serve_options_of : List Row → Option ServeOptions
+serve_options_of rows = option_and_then (λ shared. sizes_of shared rows) (options_of rows)
+
+-- the command of a subcommand that takes numbers of its own
+abbrev pub numbered_command_named : Text × List Row → Option Command
+numbered_command_named p = if bytes_eq p.0 (codes "gen") then option_map Gen (gen_options_of p.1)
+    else if bytes_eq p.0 (codes "serve") then option_map Serve (serve_options_of p.1) else None
+
 -- the command of a subcommand's name and of the values that were found for it
 abbrev pub command_named : Text × List Row → Option Command
 command_named p = if bytes_eq p.0 (codes "drive") then option_map Drive (options_of p.1)
-    else if bytes_eq p.0 (codes "audit") then option_map Audit (options_of p.1)
-    else if bytes_eq p.0 (codes "gen") then option_map Gen (gen_options_of p.1) else None
+    else if bytes_eq p.0 (codes "audit") then option_map Audit (options_of p.1) else numbered_command_named p
 
 -- the command of the subcommand that was found
 abbrev pub command_in : Option (Text × List Row) → Option Command
@@ -76,11 +113,24 @@ pub record IsMadeInRange (options : GenOptions) : Type 0 where
   pub most : options.count ≤ most_directives
   pub delay : options.shared.delay ≤ most_delay
 
+-- the numbers of `serve` are in their ranges
+pub record IsServedInRange (options : ServeOptions) : Type 0 where
+  pub workers_least : 1 ≤ options.workers
+  pub workers_most : options.workers ≤ most_threads
+  pub runners_least : 1 ≤ options.runners
+  pub runners_most : options.runners ≤ most_threads
+  pub handlers_least : 1 ≤ options.handlers
+  pub handlers_most : options.handlers ≤ most_threads
+  pub conns_least : 1 ≤ options.conns
+  pub conns_most : options.conns ≤ most_conns
+  pub delay : options.shared.delay ≤ most_delay
+
 -- the numbers of a command are in their ranges
 abbrev pub IsInRange : Command → Type 0
 IsInRange (Drive options) = options.delay ≤ most_delay
 IsInRange (Audit options) = options.delay ≤ most_delay
 IsInRange (Gen options) = IsMadeInRange options
+IsInRange (Serve options) = IsServedInRange options
 
 -- what is asked for, or the fault of words that ask for nothing
 abbrev pub or_usage : {A : Type 0} → Option A → Result A WordsFault
@@ -99,3 +149,13 @@ audit_with group delay = Some (Audit (record { group = group; delay = delay }))
 abbrev pub gen_with : (start count : ℕ) → Text → ℕ → Option Command
 gen_with start count group delay =
     Some (Gen (record { start = start; count = count; shared = record { group = group; delay = delay } }))
+
+-- `serve` with so many workers, runners, handlers and connections, with this group and this delay
+abbrev pub serve_with : (workers runners handlers conns : ℕ) → Text → ℕ → Option Command
+serve_with workers runners handlers conns group delay = Some (Serve (record {
+  workers = workers;
+  runners = runners;
+  handlers = handlers;
+  conns = conns;
+  shared = record { group = group; delay = delay };
+}))

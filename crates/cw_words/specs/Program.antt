@@ -27,6 +27,12 @@ audit = with_shared (new_app (codes "audit"))
 abbrev pub generating : App
 generating = with_rule (with_rule (with_shared (new_app (codes "gen"))) (value (codes "START"))) (value (codes "COUNT"))
 
+-- `serve`, with how many workers, threads and connections there are
+abbrev pub serving : App
+serving = with_rule (with_rule (with_rule (with_rule (with_shared (new_app (codes "serve")))
+    (option (codes "workers") (codes "3"))) (option (codes "runners") (codes "2")))
+    (option (codes "handlers") (codes "4"))) (option (codes "conns") (codes "1000"))
+
 -- the words are those behind the program's name
 abbrev pub named : App
 named = record (new_app (codes "connect")) {
@@ -34,4 +40,5 @@ named = record (new_app (codes "connect")) {
 }
 
 abbrev pub program : App
-program = with_subcommand (with_subcommand (with_subcommand named drive.top) audit.top) generating.top
+program = with_subcommand (with_subcommand (with_subcommand (with_subcommand named drive.top) audit.top)
+    generating.top) serving.top

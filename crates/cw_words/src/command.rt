@@ -26,6 +26,21 @@ pub struct GenOptions {
     pub shared: Options,
 }
 
+/// What `serve` takes: how large the server is, and what every command takes.
+#[derive(Debug, PartialEq, Eq, Drop)]
+pub struct ServeOptions {
+    /// How many workers the cluster has, from 1 to 64.
+    pub workers: u32,
+    /// How many threads run tasks, from 1 to 64.
+    pub runners: u32,
+    /// How many threads serve connections, from 1 to 64.
+    pub handlers: u32,
+    /// How many connections are accepted before the server ends, from 1 to 10,000.
+    pub conns: u32,
+    /// What every command takes.
+    pub shared: Options,
+}
+
 /// A command of the program.
 #[derive(Debug, PartialEq, Eq, Drop)]
 pub enum Command {
@@ -35,6 +50,8 @@ pub enum Command {
     Audit(Options),
     /// Plays a script that is made from a number, and says what it came to.
     Gen(GenOptions),
+    /// Serves Connect's REST API over a cluster of workers.
+    Serve(ServeOptions),
 }
 
 /// Why words give no command.

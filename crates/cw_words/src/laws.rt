@@ -1,6 +1,6 @@
 //! What the reading of words comes to at words that are written out.
 ghost use Rattle.std.specs.Prelude.{◌≡◌, None, [], ◌∷◌, codes};
-ghost use Rattle.cw_words.specs.Asked.{audit_with, command_of, drive_with, gen_with};
+ghost use Rattle.cw_words.specs.Asked.{audit_with, command_of, drive_with, gen_with, serve_with};
 
 /// The law of the program's words: options have defaults and come in any order, also between values without a name,
 /// with `=` or, where the value doesn't begin with `-`, a word of its own; and what is more, missing, out of range or a
@@ -23,6 +23,13 @@ pub fn words_are_read()
     ensures script_above { command_of (codes "gen" ∷ codes "7" ∷ codes "1000001" ∷ []) ≡ None }
     ensures script_minus { command_of (codes "gen" ∷ codes "-1" ∷ codes "4" ∷ []) ≡ None }
     ensures script_more { command_of (codes "gen" ∷ codes "7" ∷ codes "4" ∷ codes "4" ∷ []) ≡ None }
+    ensures server { command_of (codes "serve" ∷ []) ≡ serve_with 3 2 4 1000 (codes "connect-cluster") 300000 }
+    ensures server_given { command_of (codes "serve" ∷ codes "--conns=10000" ∷ codes "--handlers" ∷ codes "64" ∷
+        codes "--workers=1" ∷ codes "--runners=64" ∷ codes "--group=g" ∷ codes "--delay=0" ∷ []) ≡
+        serve_with 1 64 64 10000 (codes "g") 0 }
+    ensures server_none { command_of (codes "serve" ∷ codes "--workers=0" ∷ []) ≡ None }
+    ensures server_above { command_of (codes "serve" ∷ codes "--conns=10001" ∷ []) ≡ None }
+    ensures server_of_drive { command_of (codes "drive" ∷ codes "--workers=1" ∷ []) ≡ None }
     ensures nothing { command_of [] ≡ None }
     ensures unknown { command_of (codes "run" ∷ []) ≡ None }
     ensures more { command_of (codes "drive" ∷ codes "more" ∷ []) ≡ None }

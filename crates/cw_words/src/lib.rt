@@ -11,6 +11,6 @@ mod laws;
 mod program;
 mod reading;
 
-pub use command::{Command, GenOptions, Options, WordsFault};
+pub use command::{Command, GenOptions, Options, ServeOptions, WordsFault};
 pub use laws::words_are_read;
 pub use reading::read_words;

@@ -1,7 +1,7 @@
 //! The definition that `clap` is given of the program.
 ghost use Rattle.std.specs.Prelude.{◌≡◌, IfOk};
 ghost use Rattle.clap.specs.Words.{app_of, rule_of};
-ghost use Rattle.cw_words.specs.Program.{audit, drive, generating, named, option, program, value, with_shared};
+ghost use Rattle.cw_words.specs.Program.{audit, drive, generating, named, option, program, serving, value, with_shared};
 
 use clap::{Arg, Command};
 use std::alloc::{AllocError, Global};
@@ -49,6 +49,16 @@ fn generating<'a>(alloc: Global) -> Result<Command<'a>, AllocError>
         .arg(value(alloc, "COUNT"))
 }
 
+fn serving<'a>(alloc: Global) -> Result<Command<'a>, AllocError>
+    ensures { IfOk result (λ r. app_of r ≡ serving) }
+{
+    with_shared(alloc, Command::new(alloc, "serve"))?
+        .arg(option(alloc, "workers", "3"))?
+        .arg(option(alloc, "runners", "2"))?
+        .arg(option(alloc, "handlers", "4"))?
+        .arg(option(alloc, "conns", "1000"))
+}
+
 fn named<'a>(alloc: Global) -> Command<'a>
     ensures { app_of result ≡ named }
 {
@@ -64,5 +74,6 @@ pub(crate) fn program<'a>(alloc: Global) -> Result<Command<'a>, AllocError>
     named(alloc)
         .subcommand(drive(alloc)?)?
         .subcommand(audit(alloc)?)?
-        .subcommand(generating(alloc)?)
+        .subcommand(generating(alloc)?)?
+        .subcommand(serving(alloc)?)
 }

@@ -1,11 +1,12 @@
 //! Words are read.
-ghost use Rattle.std.specs.Prelude.{◌≡◌, ◌≢◌, None, Some, Err, IfOk, map, option_map, string_bytes};
+ghost use Rattle.std.specs.Prelude.{◌≡◌, ◌≢◌, ◌≤◌, None, Some, Err, IfOk, IfSome, map, option_map, string_bytes};
 ghost use Rattle.clap.specs.Words.{first_of, found_of, kind_of, rows_of, subcommand_rows_of};
 ghost use Rattle.cw_types.specs.Answers.{Gives};
 ghost use Rattle.cw_words.specs.Asked.{IsInRange, command_in, command_of, name_in, number_between, number_in};
-ghost use Rattle.cw_words.specs.Asked.{gen_options_of, options_of, or_usage, script_of};
+ghost use Rattle.cw_words.specs.Asked.{gen_options_of, numbered_command_named, options_of, or_usage, script_of};
+ghost use Rattle.cw_words.specs.Asked.{serve_options_of, sizes_of};
 
-use crate::command::{Command, GenOptions, Options, WordsFault};
+use crate::command::{Command, GenOptions, Options, ServeOptions, WordsFault};
 use crate::program::program;
 use clap::ArgMatches;
 use clap::error::ErrorKind;
@@ -31,7 +32,8 @@ fn name_in(alloc: Global, found: &ArgMatches<'_>, id: &str) -> Result<Option<Nam
 
 // The number that a text is, where it is in a range.
 fn number_between(text: &str, least: u64, most: u64) -> Option<u64>
-    ensures { result ≡ number_between least most text.now }
+    ensures number { result ≡ number_between least most text.now }
+    ensures most { IfSome result (λ n. n ≤ most) }
 {
     let number = read_u64(text.as_bytes())?;
     if least <= number && number <= most {
@@ -43,7 +45,8 @@ fn number_between(text: &str, least: u64, most: u64) -> Option<u64>
 
 // The number that an option's value is, where it is in a range.
 fn number_in(found: &ArgMatches<'_>, id: &str, least: u64, most: u64) -> Option<u64>
-    ensures { result ≡ number_in least most id.now (rows_of (found_of found.now)) }
+    ensures number { result ≡ number_in least most id.now (rows_of (found_of found.now)) }
+    ensures most { IfSome result (λ n. n ≤ most) }
 {
     number_between(value_in(found, id)?, least, most)
 }
@@ -82,6 +85,57 @@ fn gen_options_in(alloc: Global, found: &ArgMatches<'_>) -> Result<GenOptions, W
     script_in(shared, found).ok_or(WordsFault::Usage)
 }
 
+// How many there are to be of something, from 1 to `most`.
+fn size_in(found: &ArgMatches<'_>, id: &str, most: u32) -> Option<u32>
+    ensures { result ≡ number_in 1 most id.now (rows_of (found_of found.now)) }
+{
+    let size = number_in(found, id, 1, most as u64)?;
+    Some(size as u32)
+}
+
+// How large the server is to be, by the values that were found.
+fn sizes_in(shared: Options, found: &ArgMatches<'_>) -> Option<ServeOptions>
+    ensures { result ≡ sizes_of shared (rows_of (found_of found.now)) }
+{
+    let workers = size_in(found, "workers", 64)?;
+    let runners = size_in(found, "runners", 64)?;
+    let handlers = size_in(found, "handlers", 64)?;
+    let conns = size_in(found, "conns", 10_000)?;
+    Some(ServeOptions {
+        workers,
+        runners,
+        handlers,
+        conns,
+        shared,
+    })
+}
+
+// What `serve` takes, by the values that were found.
+fn serve_options_in(alloc: Global, found: &ArgMatches<'_>) -> Result<ServeOptions, WordsFault>
+    ensures { Gives WordsFault.Memory result (or_usage (serve_options_of (rows_of (found_of found.now)))) }
+{
+    let shared = options_in(alloc, found)?;
+    sizes_in(shared, found).ok_or(WordsFault::Usage)
+}
+
+// The command of a subcommand that takes numbers of its own.
+fn numbered_command_in(
+    alloc: Global,
+    name: &str,
+    found: &ArgMatches<'_>,
+) -> Result<Command, WordsFault>
+    ensures { Gives WordsFault.Memory result
+        (or_usage (numbered_command_named (name.now, rows_of (found_of found.now)))) }
+{
+    if name == "gen" {
+        return Ok(Command::Gen(gen_options_in(alloc, found)?));
+    }
+    if name == "serve" {
+        return Ok(Command::Serve(serve_options_in(alloc, found)?));
+    }
+    Err(WordsFault::Usage)
+}
+
 // The command of the subcommand that was found.
 fn command_in(alloc: Global, matches: &ArgMatches<'_>) -> Result<Command, WordsFault>
     ensures { Gives WordsFault.Memory result (or_usage (command_in (subcommand_rows_of matches.now))) }
@@ -95,10 +149,7 @@ fn command_in(alloc: Global, matches: &ArgMatches<'_>) -> Result<Command, WordsF
     if name == "audit" {
         return Ok(Command::Audit(options_in(alloc, found)?));
     }
-    if name == "gen" {
-        return Ok(Command::Gen(gen_options_in(alloc, found)?));
-    }
-    Err(WordsFault::Usage)
+    numbered_command_in(alloc, name, found)
 }
 
 // A parse that failed: for want of memory, or for the words.

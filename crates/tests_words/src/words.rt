@@ -35,6 +35,20 @@ fn script_has_a_number_and_a_length(rt: HostRuntime) -> Result<(), Fail> {
 }
 
 #[test]
+fn server_has_its_sizes(rt: HostRuntime) -> Result<(), Fail> {
+    let Command::Serve(plain) = read(&rt, "serve")?? else {
+        return Err(WordsFault::Usage.into());
+    };
+    assert!(rt; plain.workers == 3 && plain.runners == 2);
+    assert!(rt; plain.handlers == 4 && plain.conns == 1000);
+    let Command::Serve(given) = read(&rt, "serve --conns 10000 --workers=64 --delay 0")?? else {
+        return Err(WordsFault::Usage.into());
+    };
+    assert!(rt; given.workers == 64 && given.conns == 10000 && given.shared.delay == 0);
+    Ok(())
+}
+
+#[test]
 fn other_words_are_no_command(rt: HostRuntime) -> Result<(), Fail> {
     for line in [
         "",
@@ -46,6 +60,9 @@ fn other_words_are_no_command(rt: HostRuntime) -> Result<(), Fail> {
         "audit more",
         "gen 7",
         "gen 7 0",
+        "serve --handlers 65",
+        "serve --conns 10001",
+        "drive --workers 1",
     ] {
         assert!(rt; read(&rt, line)? == Err(WordsFault::Usage));
     }

@@ -101,3 +101,23 @@ returns-clause-script_minus c = refl
 pub returns-clause-script_more : goal.returns-clause-script_more
 unfolding clap_on_literals
 returns-clause-script_more c = refl
+
+pub returns-clause-server : goal.returns-clause-server
+unfolding clap_on_literals
+returns-clause-server c = refl
+
+pub returns-clause-server_given : goal.returns-clause-server_given
+unfolding clap_on_literals
+returns-clause-server_given c = refl
+
+pub returns-clause-server_none : goal.returns-clause-server_none
+unfolding clap_on_literals
+returns-clause-server_none c = refl
+
+pub returns-clause-server_above : goal.returns-clause-server_above
+unfolding clap_on_literals
+returns-clause-server_above c = refl
+
+pub returns-clause-server_of_drive : goal.returns-clause-server_of_drive
+unfolding clap_on_literals
+returns-clause-server_of_drive c = refl
