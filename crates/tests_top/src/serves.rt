@@ -1,7 +1,9 @@
 //! A server over objects in memory: it answers the calls of its connections, keeps each in its journal, and ends.
+use crate::cluster::{empty_disks, words_of};
 use cw_connect::{Outcome, Status, connect};
-use cw_disk::{Disks, MemDisk};
+use cw_disk::MemDisk;
 use cw_io::{MemLink, MemOutlet, MemShelf, MemSink, MemSource};
+use cw_model::JournalEntry;
 use cw_net::{Listener, MemClock, MemListener, OpenGate};
 use std::alloc::{AllocError, Global};
 use std::collections::VecDeque;
@@ -25,31 +27,62 @@ fn listener_of(
     Ok(MemListener::new(links, failing))
 }
 
+// What is looked at of a server that has ended.
+#[derive(Clone, Copy, Drop)]
+struct Seen {
+    is_done: bool,
+    is_net_fault: bool,
+    // Entries of the journal, and those among them whose reply has the code 200.
+    entries: usize,
+    good: usize,
+    receipts: usize,
+    // Whether the listener had one more connection.
+    has_more: bool,
+}
+
+// Looks at what a server left.
+fn look(outcome: Outcome<MemDisk, MemOutlet, MemListener<MemLink>>) -> Seen {
+    let Outcome {
+        status,
+        journal,
+        receipts,
+        mut net,
+        ..
+    } = outcome;
+    Seen {
+        is_done: matches!(status, Status::Done),
+        is_net_fault: matches!(status, Status::NetFault),
+        entries: journal.entries().len(),
+        good: count_of_good(journal.entries()),
+        receipts: receipts.len(),
+        has_more: matches!(net.accept(), Ok(Some(_))),
+    }
+}
+
+fn count_of_good(entries: &[JournalEntry]) -> usize {
+    let mut count: usize = 0;
+    for entry in entries {
+        if entry.reply.code == 200 {
+            count = count.saturating_add(1);
+        }
+    }
+    count
+}
+
 // Serves the connections of a listener over empty disks, three connections at most.
 fn served<R: AllocGlobal + Threads + Wait + std::rt::Clock + Sync>(
     rt: &R,
     net: MemListener<MemLink>,
-) -> Result<Outcome<MemDisk, MemOutlet, MemListener<MemLink>>, Fail> {
+) -> Result<Seen, AllocError> {
     let alloc = rt.alloc();
-    let mut words = Vec::new(alloc);
-    for word in ["serve", "--conns", "3", "--handlers", "2"] {
-        words.push(String::from_str(alloc, word)?)?;
-    }
-    let disks = Disks {
-        config_a: MemDisk::empty(alloc),
-        config_b: MemDisk::empty(alloc),
-        offsets_a: MemDisk::empty(alloc),
-        offsets_b: MemDisk::empty(alloc),
-        status_a: MemDisk::empty(alloc),
-        status_b: MemDisk::empty(alloc),
-        txn: MemDisk::empty(alloc),
-        batches: MemDisk::empty(alloc),
-    };
+    let words = words_of(alloc, "serve --conns 3 --handlers 2")?;
+    let disks = empty_disks(alloc);
     let mut input = MemSource::new(Vec::new(alloc), 7, Vec::new(alloc));
     let mut output = MemSink::new(alloc, 100, Vec::new(alloc));
     let mut shelf = MemShelf::new(alloc, Vec::new(alloc));
     let outlet = MemOutlet::new(alloc, Vec::new(alloc));
-    Ok(connect(
+    let clock = MemClock::new(0, 1);
+    let outcome = connect(
         rt,
         &words,
         disks,
@@ -58,39 +91,38 @@ fn served<R: AllocGlobal + Threads + Wait + std::rt::Clock + Sync>(
         &mut shelf,
         outlet,
         net,
-        MemClock::new(0, 1),
+        clock,
         &OpenGate,
-    ))
+    );
+    Ok(look(outcome))
 }
 
 #[test]
 fn two_connections_are_served_to_the_end(rt: HostRuntime) -> Result<(), Fail> {
     let net = listener_of(rt.alloc(), 2, Vec::new(rt.alloc()))?;
-    let outcome = served(&rt, net)?;
-    assert!(rt; matches!(outcome.status, Status::Done));
-    assert_eq!(rt; outcome.journal.entries().len(), 4);
-    assert_eq!(rt; outcome.receipts.len(), 4);
-    for entry in outcome.journal.entries() {
-        assert_eq!(rt; entry.reply.code, 200);
-    }
+    let seen = served(&rt, net)?;
+    assert!(rt; seen.is_done);
+    assert_eq!(rt; seen.entries, 4);
+    assert_eq!(rt; seen.good, 4);
+    assert_eq!(rt; seen.receipts, 4);
     Ok(())
 }
 
 #[test]
 fn no_more_connections_are_accepted_than_asked_for(rt: HostRuntime) -> Result<(), Fail> {
     let net = listener_of(rt.alloc(), 5, Vec::new(rt.alloc()))?;
-    let mut outcome = served(&rt, net)?;
-    assert!(rt; matches!(outcome.status, Status::Done));
-    assert_eq!(rt; outcome.journal.entries().len(), 6);
-    assert!(rt; outcome.net.accept()?.is_some());
+    let seen = served(&rt, net)?;
+    assert!(rt; seen.is_done);
+    assert_eq!(rt; seen.entries, 6);
+    assert!(rt; seen.has_more);
     Ok(())
 }
 
 #[test]
 fn a_listener_that_fails_is_told(rt: HostRuntime) -> Result<(), Fail> {
     let net = listener_of(rt.alloc(), 2, vec![in rt.alloc(); 1u64]?)?;
-    let outcome = served(&rt, net)?;
-    assert!(rt; matches!(outcome.status, Status::NetFault));
-    assert_eq!(rt; outcome.journal.entries().len(), 2);
+    let seen = served(&rt, net)?;
+    assert!(rt; seen.is_net_fault);
+    assert_eq!(rt; seen.entries, 2);
     Ok(())
 }
