@@ -74,7 +74,12 @@ fn next_stream<R: Net<Listener = TcpListener, Stream = TcpStream>>(
         *listener = Some(TcpListener::bind(system, ADDRESS)?);
     }
     match listener {
-        Some(listener) => Ok(listener.accept()?.0),
+        Some(listener) => {
+            let stream = listener.accept()?.0;
+            // The end of a reply isn't held back until its beginning is acknowledged, where the system lets it be so.
+            let _ = stream.set_nodelay(true);
+            Ok(stream)
+        }
         None => unreachable!(),
     }
 }

@@ -43,17 +43,18 @@ pub enum Cleaned {
 }
 
 impl<J: Begun, D: Disk> Shared<J, D> {
-    /// A herder's turn: the group lets a member go whose last tick is too long ago; else the worker ticks.
+    /// A herder's turn: the group lets a member go whose last tick is too long ago; else the worker ticks. A herder that
+    /// comes too late itself, as all do where the process stood still, judges nobody by what was before.
     pub fn herd(&mut self, alloc: Global, w: u32, now: u64) -> Herded
         ensures { KeepsJournal self.old.state self.new.state }
     {
         if !self.goes_on() || !self.world.cluster().has_worker(w) {
             return Herded::Over;
         }
+        note(&mut self.moments, w, now);
         if let Some(member) = late_member(self.world.cluster(), &self.moments, now) {
             return after_expiry(cw_turns::expire(&mut self.world, member, now));
         }
-        note(&mut self.moments, w, now);
         let ticked = cw_turns::herd(alloc, &mut self.world, w, now);
         after_tick(&mut self.stop, ticked)
     }
@@ -93,9 +94,17 @@ fn is_late(moments: &[u64], w: u32, now: u64) -> bool {
     }
 }
 
-// Notes that a worker ticks.
+// Notes that a worker ticks; where it comes too late itself, that all do.
 fn note(moments: &mut [u64], w: u32, now: u64) {
-    if let Some(moment) = moments.get_mut(w as usize) {
+    if is_late(moments, w, now) {
+        note_all(moments, now);
+    } else if let Some(moment) = moments.get_mut(w as usize) {
+        *moment = now;
+    }
+}
+
+fn note_all(moments: &mut [u64], now: u64) {
+    for moment in moments {
         *moment = now;
     }
 }
