@@ -1,0 +1,27 @@
+-- Beginnings of one list.
+use Rattle.std.proofs.Common.{◌≡◌, ◌≤◌, List, [], ◌∷◌, length, refl, arith}
+use mathlib.Core.List.{IsPrefix}
+use Rattle.cw_board.specs.Records.{IsFirstPart}
+
+-- of two beginnings of one list the shorter begins the longer
+pub prefix_shorter : {A : Type 0} (xs ys zs : List A) → IsPrefix xs zs → IsPrefix ys zs → length xs ≤ length ys → IsPrefix xs ys
+prefix_shorter [] ys zs p q le = (ys, refl)
+prefix_shorter (x ∷ xs) [] zs p q le = absurd (omega arith)
+prefix_shorter (x ∷ xs) (y ∷ ys) [] p q le = absurd (cc (p.1))
+prefix_shorter (x ∷ xs) (y ∷ ys) (z ∷ zs) p q le =
+    let heads : x ≡ y = cc (p.1, q.1) in
+    let rest = prefix_shorter xs ys zs (p.0, cc (p.1)) (q.0, cc (q.1)) (omega arith) in
+    (rest.0, cc (heads, rest.1))
+
+-- a beginning is a first part
+pub prefix_part : {A : Type 0} (xs ys : List A) → IsPrefix xs ys → IsFirstPart xs ys
+prefix_part [] [] p = refl
+prefix_part [] (y ∷ ys) p = refl
+prefix_part (x ∷ xs) [] p = absurd (cc (p.1))
+prefix_part (x ∷ xs) (y ∷ ys) p =
+    let rest = prefix_part xs ys (p.0, cc (p.1)) in
+    let heads : x ≡ y = cc (p.1) in
+    cc (heads, rest)
+
+pub shorter_part : {A : Type 0} (xs ys zs : List A) → IsPrefix xs zs → IsPrefix ys zs → length xs ≤ length ys → IsFirstPart xs ys
+shorter_part xs ys zs p q le = prefix_part xs ys (prefix_shorter xs ys zs p q le)

@@ -1,0 +1,6 @@
+pub mod Histories
+pub mod Adding
+pub mod Fronts
+pub mod Configs
+pub mod Shelved
+pub mod Written
