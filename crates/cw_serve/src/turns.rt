@@ -99,7 +99,8 @@ fn note(moments: &mut [u64], w: u32, now: u64) {
     if is_late(moments, w, now) {
         note_all(moments, now);
     } else if let Some(moment) = moments.get_mut(w as usize) {
-        *moment = now;
+        // (a time that was read before others noted theirs takes nothing back)
+        *moment = now.max(*moment);
     }
 }
 
