@@ -15,8 +15,10 @@ impl<A> Model for Past<A> {
     ghost also_owns = { λ _. ftrue };
 }
 
-// It owns nothing.
+// It owns nothing, so threads may take it over, and share it whatever it tells of.
 unsafe impl<A: Send> Send for Past<A> {}
+
+unsafe impl<A> Sync for Past<A> {}
 
 impl<A> Past<A> {
     /// No value.
