@@ -6,6 +6,7 @@ ghost use Rattle.cw_rows.specs.Crew.{numbers_at};
 ghost use Rattle.cw_rows.specs.Statuses.{plain};
 
 use crate::cluster::Cluster;
+use cw_config::ConfigRecord;
 use cw_data::DataState;
 use cw_status::StatusState;
 use cw_txn::Coordinator;
@@ -53,6 +54,13 @@ impl Cluster {
         ensures { result ≡ length self.now.state.configs }
     {
         self.topics.records().len() as u64
+    }
+
+    /// The records of the config log, the oldest first, with those that a compaction dropped since the cluster was opened.
+    pub fn config_records(&self) -> &[ConfigRecord]
+        ensures { result.now ≡ self.now.state.configs }
+    {
+        self.topics.records()
     }
 
     /// The numbers of the instances that a worker runs, the oldest first.
