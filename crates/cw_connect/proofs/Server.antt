@@ -20,6 +20,7 @@ use Rattle.cw_open.specs.Judged.{HasFirstHarm}
 use Rattle.cw_open.specs.Leaving.{StandForLists}
 use Rattle.cw_open.specs.Reopened.{DiskFiles, TellAll, disk_in}
 use Rattle.cw_serve.specs.Serving.{Differs, IsAgreed}
+use Rattle.cw_serve.specs.Talking.{HaveTalked}
 use Rattle.cw_serve.specs.declared.ends.ServeEnd.{ServeEnd}
 use Rattle.cw_serve.specs.declared.ends.ServeEnd.TheVariants as end
 use Rattle.cw_turns.specs.Going.{Start}
@@ -30,7 +31,7 @@ use Rattle.cw_words.specs.declared.command.ServeOptions.{ServeOptions}
 use Rattle.cw_world.specs.Receipts.{JournalState, ReceiptState}
 use Rattle.cw_world.specs.World.{WorldState}
 use Rattle.cw_connect.specs.Outcomes.{IsRefusedFor, Leaves}
-use Rattle.cw_connect.specs.Served.{AllGiven, IsKept, IsOfItsWorld, IsServedWhole, IsServeDue, IsServeRun}
+use Rattle.cw_connect.specs.Served.{AllGiven, IsKept, IsOfItsWorld, IsServedWhole, IsServeDue, IsServeRun, IsAgreed as HasAgreed}
 use Rattle.cw_connect.specs.Statuses.{status_of_serve, status_of_shelf}
 use Rattle.cw_connect.specs.declared.status.Status.{Status}
 use Rattle.cw_connect.specs.declared.status.Status.TheVariants.{Done, Usage, BadScript, TooLong, ReadFault, WriteFault, StoreFault, Damaged, ShelfFault, OutletFault, NetFault, Full, Memory, Disagree}
@@ -133,6 +134,24 @@ module _ {D N L : Type 0} (n : listener.Ghosts N L) (conns : ℕ) (world : World
   serve_due end.NetFault ledger differs done store closed = kept (ledger (λ d it. net_or_odds d it)) (λ disk count it. net_or_store disk count (closed disk count it (λ d is. net_or_odds d is)))
   serve_due end.Memory ledger differs done store closed = kept (ledger (λ d it. memory_or_odds d it)) (λ disk count it. memory_or_store disk count (closed disk count it (λ d is. memory_or_odds d is)))
   serve_due (end.Disagree d) ledger differs done store closed = at_odds d (differs d refl)
+
+-- ---- what was said on the links
+
+-- where the status tells of no receipt that is at odds, the receipts were found to be the journal
+has_agreed : (e : ServeEnd) (status : Status) → status ≡ status_of_serve e → HasAgreed status → IsAgreed e
+has_agreed e status is agreed d odds = agreed d.at d.kept d.found (is ∙ ap status_of_serve odds)
+
+pub talked_under : {N L : Type 0} (n : listener.Ghosts N L) (old new : N) (receipts : List ReceiptState) (e : ServeEnd) (status : Status) → status ≡ status_of_serve e → HaveTalked n (IsAgreed e) old new receipts
+    → HaveTalked n (HasAgreed status) old new receipts
+talked_under n old new receipts e status is talked = record {
+  accepted = talked.accepted;
+  numbers = talked.numbers;
+  entries = talked.entries;
+  given = talked.given;
+  once = talked.once;
+  talks = talked.talks;
+  answered = λ agreed. talked.answered (has_agreed e status is agreed);
+}
 
 -- ---- the disks
 

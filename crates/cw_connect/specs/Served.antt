@@ -1,6 +1,6 @@
 -- How a run of the command `serve` ended: nothing was opened, and why; or a cluster was opened, workers served Kafka
 -- Connect's REST API over it, and what they left is due. This project's own rule, as is the journal of the calls.
-use Rattle.std.specs.Prelude.{◌≡◌, ◌≤◌, ◌+◌, ◌⊎◌, ℕ, Bool, true, List, [], Option, Some, None}
+use Rattle.std.specs.Prelude.{◌≡◌, ◌≢◌, ◌≤◌, ◌+◌, ◌⊎◌, ℕ, Bool, true, List, [], Option, Some, None}
 use Rattle.logbook.specs.Pages.{Book}
 use Rattle.cw_desk.specs.Comparing.{AreTheJournal, IsFound}
 use Rattle.cw_desk.specs.declared.comparing.Member.{Member}
@@ -17,6 +17,7 @@ use Rattle.cw_types.specs.declared.logs.DiskName.{DiskName}
 use Rattle.cw_words.specs.declared.command.ServeOptions.{ServeOptions}
 use Rattle.cw_world.specs.Receipts.{JournalState, ReceiptState}
 use Rattle.cw_run.specs.Reaches.{Reaches}
+use Rattle.cw_serve.specs.Talking.{HaveTalked}
 use Rattle.cw_connect.specs.Opening.{IsSetFor, IsOpenedFrom}
 use Rattle.cw_connect.specs.Outcomes.{IsNotOpened}
 use Rattle.cw_connect.specs.declared.status.Status.{Status}
@@ -86,8 +87,13 @@ IsServeDue n conns (Damaged disk at harm) left net_old net_new journal receipts 
 IsServeDue n conns ShelfFault left net_old net_new journal receipts = ⊥
 IsServeDue n conns (Full log length frame) left net_old net_new journal receipts = ⊥
 
+-- the receipts were found to be the journal
+abbrev pub IsAgreed : Status → Type 0
+IsAgreed status = (at : ℕ) (kept : ReceiptState) (found : Option Member) → status ≢ Disagree at kept found
+
 -- A server ran over a cluster. What it left is behind a run of the events, and a stop leaves of the disks just files
--- that stand for it, or where a disk failed for the states before and behind the event in flight.
+-- that stand for it, or where a disk failed for the states before and behind the event in flight. Over each link that
+-- was accepted there was one connection.
 pub record IsServedOver {D N L : Type 0} (G : Ghosts D) (n : listener.Ghosts N L) (conns : ℕ) (setting : Setting)
     (opened : Cluster) (tells : Bool) (status : Status) (new : Disks D) (net_old net_new : N)
     (journal : JournalState) (receipts : List ReceiptState) : Type 0 where
@@ -99,6 +105,7 @@ pub record IsServedOver {D N L : Type 0} (G : Ghosts D) (n : listener.Ghosts N L
   pub cut_off : (disk : DiskName) (count : ℕ) → left.closed ≡ Some (disk, count) →
       IsCutOff G setting opened left tells new
   pub few : n.given net_new ≤ n.given net_old + conns
+  pub talked : HaveTalked n (IsAgreed status) net_old net_new receipts
   pub due : IsServeDue n conns status left net_old net_new journal receipts
 
 -- a cluster was opened from the disks and the shelf, and a server ran over it

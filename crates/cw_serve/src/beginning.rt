@@ -1,5 +1,5 @@
 //! What is made before the first thread.
-ghost use Rattle.std.specs.Prelude.{◌≡◌, ◌+◌, ◌≤◌, vec_len, vec_capacity, IfOk};
+ghost use Rattle.std.specs.Prelude.{◌≡◌, ◌+◌, ◌≤◌, [], vec_len, vec_capacity, IfOk};
 ghost use Rattle.cw_line.specs.Sides.{beginning, name_of};
 
 use crate::crew::Crew;
@@ -34,8 +34,10 @@ pub fn prepare<J: Begun, L>(
     requires acceptor { acceptor.old ≡ beginning }
     requires share { (rest.old.parts ≡ handlers + 2) × (rest.old.amount ≡ 0) }
     ensures crew { IfOk result (λ r. (vec_len r.crew.waiting ≡ handlers) × (vec_len r.crew.done ≡ 0)) }
+    ensures own { IfOk result (λ r. r.own.receipts.items ≡ []) }
     ensures books { IfOk result (λ r. (vec_len r.books ≡ 0) × (handlers + 1 ≤ vec_capacity r.books)) }
     ensures acceptor { IfOk result (λ _. (acceptor.new.parts + handlers ≡ 1024) × (acceptor.new.pushed ≡ 0)) }
+    ensures taken { IfOk result (λ _. acceptor.new.taken ≡ []) }
     ensures share { IfOk result (λ _. (rest.new.parts ≡ 1) × (rest.new.amount ≡ 0)) }
 {
     let own = Kept::new(alloc, rest.split_off(1, 0));
@@ -66,6 +68,7 @@ fn split<J: Begun, L>(
     requires share { (rest.old.parts ≡ handlers + 1) × (rest.old.amount ≡ 0) }
     ensures handlers { IfOk result (λ made. vec_len made ≡ handlers) }
     ensures acceptor { IfOk result (λ _. (acceptor.new.parts + handlers ≡ 1024) × (acceptor.new.pushed ≡ 0)) }
+    ensures taken { IfOk result (λ _. acceptor.new.taken ≡ []) }
     ensures share { IfOk result (λ _. (rest.new.parts ≡ 1) × (rest.new.amount ≡ 0)) }
 {
     let mut made = Vec::with_capacity(alloc, handlers as usize)?;

@@ -1,14 +1,19 @@
 //! What is done behind the joins.
-ghost use Rattle.std.specs.Prelude.{◌≡◌, ◌+◌, ◌<◌, ◌≤◌, ℕ, true, false, length, None, Some, All, vec_len, vec_capacity};
-ghost use Rattle.std.specs.Prelude.{IfOk, IfErr};
+ghost use Rattle.std.specs.Prelude.{◌≡◌, ◌+◌, ◌<◌, ◌≤◌, ℕ, true, false, List, [], ◌++◌, length, None, Some, All};
+ghost use Rattle.std.specs.Prelude.{IfOk, IfErr, vec_len, vec_capacity};
+ghost use Rattle.std.specs.List.{flat_map};
+ghost use Rattle.std.specs.List.Sorted.{IsPermutation};
 ghost use Rattle.cw_types.specs.declared.logs.DiskName.{DiskName};
 ghost use Rattle.cw_line.specs.Numbers.{IsEachOnce};
 ghost use Rattle.cw_line.specs.Sides.{name_of};
 ghost use Rattle.cw_types.specs.Faults.{Rose};
 ghost use Rattle.cw_desk.specs.declared.comparing.Disagree.{Disagree};
 ghost use Rattle.cw_desk.specs.Comparing.{AreTheJournal};
+ghost use Rattle.cw_model.specs.declared.journal.JournalEntry.{JournalEntry};
 ghost use Rattle.cw_turns.specs.Going.{GoesOn};
+ghost use Rattle.cw_world.specs.Receipts.{ReceiptState};
 ghost use Rattle.cw_serve.specs.Serving.{IsAgreed, Differs};
+ghost use Rattle.cw_serve.specs.Talking.{AreTalks, entries_in};
 
 use crate::common::Common;
 use crate::crew::Crew;
@@ -50,6 +55,8 @@ pub fn absorb_all<J: Begun, L>(
     ensures pushed { acceptor.new.pushed ≡ acceptor.old.pushed }
     ensures books { vec_len books.new ≡ vec_len books.old + vec_len done }
     ensures room { vec_len books.new < vec_capacity books.new }
+    ensures talks { AreTalks acceptor.old.taken (entries_in (flat_map (λ k. k.receipts.items) books.old.items)) →
+        AreTalks acceptor.new.taken (entries_in (flat_map (λ k. k.receipts.items) books.new.items)) }
 {
     while let Some(handler) = done.pop() {
         let Handler { taker, kept } = handler;
@@ -58,7 +65,7 @@ pub fn absorb_all<J: Begun, L>(
     }
 }
 
-/// Serves the links that no handler took. Then each link that was pushed was taken once.
+/// Serves the links that no handler took, each in one connection. Then each link that was pushed was taken once.
 pub fn serve_left<J: Begun, D: Disk, U: Outlet, C, L: Link + Drop, R: Wait>(
     rt: &R,
     alloc: Global,
@@ -71,6 +78,9 @@ pub fn serve_left<J: Begun, D: Disk, U: Outlet, C, L: Link + Drop, R: Wait>(
     requires whole { acceptor.old.parts ≡ 1024 }
     ensures pushed { acceptor.new.pushed ≡ acceptor.old.pushed }
     ensures each_once { IsEachOnce acceptor.new.pushed acceptor.new.taken }
+    ensures talks { (others : List JournalEntry) →
+        AreTalks acceptor.old.taken (others ++ entries_in own.receipts.items) →
+        AreTalks acceptor.new.taken (others ++ entries_in result.receipts.items) }
 {
     let mut own = own;
     for _ in rt.forever() {
@@ -93,6 +103,8 @@ pub fn gather<J: Begun, D: Disk>(
     requires parts { (rest.parts + vec_len books ≡ J.parts) × (rest.amount ≡ 0) }
     requires name { left.world.name ≡ J.start.name }
     ensures world { result.world ≡ left.world }
+    ensures same { IfOk result.receipts (λ receipts.
+        IsPermutation (flat_map (λ k. k.receipts.items) books.items) receipts.items) }
     ensures ledger { IfOk result.receipts (λ receipts. AreTheJournal result.world.state.journal receipts.items) }
     ensures differs { IfErr result.receipts (λ d. Differs result.world d) }
 {
@@ -127,6 +139,7 @@ fn take_in<J: Begun>(
     ensures book { book.new.total ≡ book.old.total }
     ensures rest { (rest.new.amount ≡ vec_len room.new) × (rest.new.parts ≡ rest.old.parts + 1) }
     ensures room { vec_capacity room.old ≤ vec_capacity room.new }
+    ensures behind { room.new.items ≡ room.old.items ++ kept.receipts.items }
     ensures named { All (λ r. r.name ≡ J.start.name) room.new.items }
 {
     let Kept {
@@ -145,13 +158,15 @@ fn take_in<J: Begun>(
 fn compared<D: Disk>(world: &World<D>, receipts: Vec<Receipt>) -> Result<Vec<Receipt>, Disagree>
     requires count { vec_len receipts ≡ length world.now.state.journal }
     requires named { All (λ r. r.name ≡ world.now.name) receipts.items }
+    ensures same { IfOk result (λ ordered. IsPermutation receipts.items ordered.items) }
     ensures ledger { IfOk result (λ ordered. AreTheJournal world.now.state.journal ordered.items) }
     ensures differs { IfErr result (λ d. Differs world.now d) }
 {
     compare(world.cluster().journaled(), receipts)
 }
 
-/// Ends the line: each link that was pushed is then taken once. It gives what all handlers and this thread kept.
+/// Ends the line: each link that was pushed is then taken once, and served in one connection. It gives what all
+/// handlers and this thread kept.
 pub fn end_line<J: Begun, D: Disk, U: Outlet, C, L: Link + Drop, R: Wait>(
     rt: &R,
     alloc: Global,
@@ -165,8 +180,10 @@ pub fn end_line<J: Begun, D: Disk, U: Outlet, C, L: Link + Drop, R: Wait>(
     requires seat { name_of line.now ≡ J.table }
     requires parts { (0 < acceptor.old.parts) × (acceptor.old.parts + vec_len crew.done ≡ 1024) }
     requires room { (vec_len books ≡ 0) × (vec_len crew.done < vec_capacity books) }
+    requires fresh { (acceptor.old.taken ≡ []) × (own.receipts.items ≡ []) }
     ensures all { vec_len result ≡ vec_len crew.done + 1 }
     ensures each_once { IsEachOnce acceptor.old.pushed acceptor.new.taken }
+    ensures talks { AreTalks acceptor.new.taken (entries_in (flat_map (λ k. k.receipts.items) result.items)) }
 {
     let Crew { waiting: _, done } = crew;
     let mut books = books;
@@ -187,6 +204,8 @@ pub fn finish<J: Begun, D: Disk, U: Outlet, C: Drop, N>(
 ) -> Served<D, U, N>
     requires parts { (rest.parts + vec_len books ≡ J.parts) × (rest.amount ≡ 0) }
     ensures goes_on { GoesOn D.Disk J.start result.world }
+    ensures same { IsAgreed result.end →
+        IsPermutation (flat_map (λ k. k.receipts.items) books.items) result.receipts.items }
     ensures ledger { IsAgreed result.end → AreTheJournal result.world.state.journal result.receipts.items }
     ensures differs { (d : Disagree) → result.end ≡ ServeEnd.Disagree d → Differs result.world d }
     ensures done { result.end ≡ ServeEnd.Done → (result.world.state.closed ≡ None) × (failed ≡ false) }
@@ -226,6 +245,8 @@ fn conclude<D: Disk, U, N>(
     requires ledger { IfOk told.receipts (λ receipts. AreTheJournal told.world.state.journal receipts.items) }
     requires differs { IfErr told.receipts (λ d. Differs told.world d) }
     ensures handed { (result.world ≡ told.world) × (result.outlet ≡ outlet) × (result.net ≡ net) }
+    ensures same { (kept : List ReceiptState) → IfOk told.receipts (λ receipts. IsPermutation kept receipts.items) →
+        IsAgreed result.end → IsPermutation kept result.receipts.items }
     ensures ledger { IsAgreed result.end → AreTheJournal result.world.state.journal result.receipts.items }
     ensures differs { (d : Disagree) → result.end ≡ ServeEnd.Disagree d → Differs result.world d }
     ensures done { result.end ≡ ServeEnd.Done → (result.world.state.closed ≡ None) × (failed ≡ false) }

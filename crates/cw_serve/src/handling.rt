@@ -1,6 +1,7 @@
 //! A connection handler's thread.
 ghost use Rattle.std.specs.Prelude.{◌≡◌};
 ghost use Rattle.cw_line.specs.Sides.{name_of};
+ghost use Rattle.cw_serve.specs.Talking.{Serves, entries_in};
 
 use crate::common::Common;
 use crate::desk::LockDesk;
@@ -11,15 +12,29 @@ use cw_disk::Disk;
 use cw_io::{Link, Outlet};
 use cw_line::{Line, Taker, Ticket};
 use std::alloc::Global;
+use std::marker::Model;
 use std::sync::Wait;
 use std::thread;
 use std::time::Duration;
 
-/// What a handler has: its side of the line, and what it keeps of its calls.
+/// What a handler has: its side of the line, and what it keeps of its calls. Clauses see the numbers of the links that
+/// it took. Over each of these there was one connection, and the connections were answered by the entries of which it
+/// keeps receipts.
 #[derive(Drop)]
 pub struct Handler<J: Begun, L> {
     pub taker: Taker<J, L>,
     pub kept: Kept<J>,
+}
+
+impl<J: Begun, L> Model for Handler<J, L> {
+    ghost use Rattle.std.specs.Prelude.{ℕ, List};
+    ghost use Rattle.cw_serve.specs.Talking.{AreTalks, entries_in};
+
+    ghost Value = { List ℕ };
+
+    ghost view = { λ h. h.taker };
+
+    ghost invariant = { λ h. AreTalks h.taker (entries_in h.kept.receipts.items) };
 }
 
 /// Serves links until all were accepted and none waits. It sleeps for a millisecond where none waits.
@@ -28,37 +43,40 @@ pub fn handle<J: Begun, D: Disk, U: Outlet, C, L: Link + Drop, R: Wait + std::rt
     alloc: Global,
     common: &Common<J, D, U, C>,
     line: &Line<L>,
-    mut handler: Handler<J, L>,
+    handler: Handler<J, L>,
 ) -> Handler<J, L>
     requires { name_of line.now ≡ J.table }
 {
+    let Handler {
+        mut taker,
+        mut kept,
+    } = handler;
     for _ in rt.forever() {
         let ended = common.shared.lock(rt).has_ended();
-        match handler.taker.take(rt, line) {
-            Some(ticket) => {
-                let Handler { taker, kept } = handler;
-                let kept = serve_link(rt, alloc, common, ticket, kept);
-                handler = Handler { taker, kept };
-            }
+        match taker.take(rt, line) {
+            Some(ticket) => kept = serve_link(rt, alloc, common, ticket, kept),
             None => {
                 if ended {
-                    break;
+                    return Handler { taker, kept };
                 }
                 thread::sleep(rt, Duration::from_millis(1));
             }
         }
     }
-    handler
+    unreachable!()
 }
 
-/// Serves a link through the worker that its number picks.
+/// Serves a link through the worker that its number picks: one connection, by whose entries the receipts grow.
 pub fn serve_link<J: Begun, D: Disk, U: Outlet, C, L: Link + Drop, R: Wait>(
     rt: &R,
     alloc: Global,
     common: &Common<J, D, U, C>,
     ticket: Ticket<L>,
     kept: Kept<J>,
-) -> Kept<J> {
+) -> Kept<J>
+    ensures { Serves ticket.number (L.left ticket.link) (L.held ticket.link) (entries_in kept.receipts.items)
+        (entries_in result.receipts.items) }
+{
     let Ticket { number, mut link } = ticket;
     let mut desk = LockDesk {
         rt,

@@ -1,5 +1,5 @@
 //! What one connection handler keeps of its calls.
-ghost use Rattle.std.specs.Prelude.{◌≡◌, vec_len, All};
+ghost use Rattle.std.specs.Prelude.{◌≡◌, [], vec_len, All};
 
 use crate::naming::Begun;
 use cw_world::Receipt;
@@ -20,6 +20,7 @@ impl<J: Begun> Kept<J> {
     /// Nothing yet.
     pub fn new(alloc: Global, share: Share<J>) -> Kept<J>
         requires { (share.parts ≡ 1) × (share.amount ≡ 0) }
+        ensures { result.receipts.items ≡ [] }
     {
         Kept {
             receipts: Vec::new(alloc),

@@ -3,7 +3,8 @@
 //!
 //! Its public contract promises that the world which is given back is one that a run of the model's events reaches from
 //! the world that was handed in, that the receipts of all answered calls are its journal, each entry once, or which one
-//! isn't, and why it ended.
+//! isn't, that over each link which was accepted there was one connection, and that the entries of all connections are
+//! those of the receipts, and why it ended.
 //! It stands on the turns of `cw_turns`, which are made under the lock, on the line of `cw_line` in which links wait,
 //! on the connections of `cw_conn` and on the desk of `cw_desk`.
 #![tactic(auto)]

@@ -38,7 +38,7 @@ pub struct Given<D: Disk, U, N, C> {
 }
 
 /// What a server leaves that couldn't begin for want of memory.
-#[tactic(auto, using(crate::proofs::Unbegun::none_are))]
+#[tactic(auto, using(crate::proofs::Unbegun::none_are, crate::proofs::Unbegun::none_talked))]
 pub fn unserved<D: Disk, U: Outlet, N: Listener>(
     alloc: Global,
     world: World<D>,

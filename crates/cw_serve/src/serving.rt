@@ -9,6 +9,7 @@ ghost use Rattle.cw_run.specs.Reaches.{HaveNames};
 ghost use Rattle.cw_turns.specs.Going.{GoesOn, start_of};
 ghost use Rattle.cw_serve.specs.Starting.{AreServed};
 ghost use Rattle.cw_serve.specs.Serving.{IsAgreed, Differs};
+ghost use Rattle.cw_serve.specs.Talking.{HaveTalked};
 
 use crate::ends::{ServeEnd, Served};
 use crate::named::{Given, serve_named, unserved};
@@ -27,8 +28,9 @@ use std::thread::Threads;
 
 /// Serves Kafka Connect's REST API over the links of a listener, while the workers' herders tick and their tasks run,
 /// each in a thread of its own. It ends behind so many connections, or where the listener ends or fails. Where a disk
-/// or the outlet fails, or herders or tasks want memory, these end before, and calls are answered on. The feeds are
-/// those of the world, loaded again. A server that can't begin for want of memory gives all back.
+/// or the outlet fails, or herders or tasks want memory, these end before, and calls are answered on. Over each link
+/// that was accepted there is one connection, and the entries of all connections are those of the receipts. The feeds
+/// are those of the world, loaded again. A server that can't begin for want of memory gives all back.
 #[tactic(auto, using(crate::proofs::Begun::begun))]
 pub fn serve<R, D, U, N, C, G>(
     rt: &R,
@@ -57,6 +59,7 @@ where
     ensures differs { (d : Disagree) → result.end ≡ ServeEnd.Disagree d → Differs result.world d }
     ensures done { result.end ≡ ServeEnd.Done → (result.world.state.closed ≡ None) ×
         ((N.given result.net ≡ N.given net + sizes.conns) ⊎ (N.ended result.net ≡ true)) }
+    ensures talked { HaveTalked N.Listener (IsAgreed result.end) net result.net result.receipts.items }
     ensures given { N.given net ≤ N.given result.net }
     ensures most { N.given result.net ≤ N.given net + sizes.conns }
     ensures store { (disk : DiskName) (count : ℕ) → result.end ≡ ServeEnd.StoreFault disk count →

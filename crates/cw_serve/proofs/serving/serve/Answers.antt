@@ -31,3 +31,6 @@ returns-in_default-clause-later_net g c = (c.unserved.ensures.served c.args.size
 
 pub returns-in_default-clause-ledger : goal.returns-in_default-clause-ledger
 returns-in_default-clause-ledger g c = (c.unserved.ensures.served c.args.sizes.conns).ledger
+
+pub returns-in_default-clause-talked : goal.returns-in_default-clause-talked
+returns-in_default-clause-talked g c = (c.unserved.ensures.served c.args.sizes.conns).talked
