@@ -1,6 +1,6 @@
 -- What is said on the links that a server accepts: of each link there is one connection, and the entries of all
 -- connections together are those of the receipts (RFC 9112, 9.3). That links are numbered is this project's own rule.
-use Rattle.std.specs.Prelude.{◌≡◌, ℕ, ◌+◌, List, [], ◌∷◌, ◌++◌, map, Option}
+use Rattle.std.specs.Prelude.{◌≡◌, ℕ, ◌+◌, List, [], ◌++◌, map, Option}
 use Rattle.std.specs.List.{AllByRecursion, flat_map}
 use Rattle.std.specs.List.Sorted.{IsPermutation}
 use Rattle.cw_conn.specs.Talked.{Moment, moment, Talked}
