@@ -1,9 +1,10 @@
 //! Images of the disks that a script left, each changed in one place, and what opening them says.
 //!
 //! Of each of the eight disks the table has a file that is cut, its header's zeros, magic, version and kind changed, a
-//! frame that is cut or too long, a body that is none of its log, and a disk that fails in the first call; of each pair
-//! both sides with one number. A side that isn't the chosen one is harmed in its header alone, as its frames aren't
-//! read. The harm Unsafe is told of the chosen side of the config log and of the transaction log, and of no other disk:
+//! frame that is cut or too long, a body that is none of its log, one that isn't allowed at its place, and a disk that
+//! fails in the first call; of each pair both sides with one number. A side that isn't the chosen one is harmed in its
+//! header alone, as its frames aren't read. The harm Unsafe is told of the chosen side of the config log and of the
+//! transaction log, and of no other disk:
 //! - `config_a`, `config_b`: a record is stamped past the end of the transaction list.
 //! - `txn`: a commit doesn't go on where its part ended, or is an older task's behind a standing fence, or has no batch,
 //!   for which the changed disk is `batches`.
