@@ -6,7 +6,7 @@
 //! header alone, as its frames aren't read. The harm Unsafe is told of the chosen side of the config log and of the
 //! transaction log, and of no other disk:
 //! - `config_a`, `config_b`: a record is stamped past the end of the transaction list.
-//! - `txn`: a commit doesn't go on where its part ended, or is an older task's behind a standing fence, or has no batch,
+//! - `txn`: a commit doesn't go on where its part ended, is an older task's behind a standing fence, or has no batch,
 //!   for which the changed disk is `batches`.
 //! - `offsets_a`, `offsets_b`: never, since where a part ends is what the transaction list says, and a record or a
 //!   marker that doesn't fit that list isn't allowed at its place, which is Content.

@@ -1,8 +1,8 @@
 //! `sweep`: images of a cluster's eight disks: those that a table asks for, and those that a stop in every call of each
 //! disk leaves.
 //!
-//! Its input has a line for each image: which script left the disks, what is changed of one of them (its length, a byte,
-//! or that its calls fail from some number on), and maybe a directive. The image is opened, with that directive as the
+//! Its input has a line for each image: which script left the disks, what is changed of one of them (its length, or a
+//! byte, or that its calls fail from some number on), and maybe a directive. The image is opened, with it as the
 //! script, and what comes of it is printed. Then stops are swept: a script of a producer, a source with a sink,
 //! alterations of offsets and compactions, of which each line makes at most one event that is written, is played by the
 //! top call over eight disks in memory. One of them fails from some call on, for each number of that call until a run
