@@ -10,8 +10,7 @@ use Rattle.cw_group.specs.declared.answers.GroupFault.{GroupFault}
 use Rattle.cw_group.specs.declared.answers.GroupFault.TheVariants.{Unknown, NotClaimed, AlreadyJoined}
 use Rattle.cw_group.specs.declared.member.Member.{Member}
 use Rattle.cw_group.specs.Members.{member_of}
-use Rattle.cw_group.specs.Group.{GroupState, enters, opened, joins, join_row, join_refusal, not_claimed, for_member, unless}
-use Rattle.cw_group.specs.Phases.{is_open}
+use Rattle.cw_group.specs.Group.{GroupState, enters, join_row, join_refusal, not_claimed, for_member, unless}
 use Rattle.cw_model.specs.declared.fault.WorldFault.{WorldFault}
 use Rattle.cw_model.specs.declared.fault.WorldFault.TheVariants.{Dead, Group, Memory}
 use Rattle.cw_model.specs.State.{Cluster}
@@ -32,8 +31,8 @@ first-stands P (y ∷ ys) x is = pick (P y) refl is (first-stands P ys x) where
   pick : (b : Bool) → P y ≡ b → cond (not b) (Some y) (find (λ z. not (P z)) ys) ≡ Some x
       → (find (λ z. not (P z)) ys ≡ Some x → (has ys x ≡ true) × (P x ≡ false)) → (has (y ∷ ys) x ≡ true) × (P x ≡ false)
   pick false py is rest =
-    let same : y ≡ x = cc in
-    (ap (λ (b : Bool). b || has ys x) ((same_item-Decides x y).1 (sym same)), subst (λ (z : Item). P z ≡ false) same py)
+      let same : y ≡ x = cc in
+      (ap (λ (b : Bool). b || has ys x) ((same_item-Decides x y).1 (sym same)), subst (λ (z : Item). P z ≡ false) same py)
   pick true py is rest = let found = rest is in (behind (same_item x y) found.0, found.1)
 
 module _ (w : ℕ) (s : Cluster) (x : Item) where
@@ -47,12 +46,12 @@ module _ (w : ℕ) (s : Cluster) (x : Item) where
   none-outside : GroupFacts s → MayJoin w s → (b : Bool) → is_member w s ≡ b → (m : Member) → member_of w (if b then s.group else enters w s.group).members ≡ Some m
       → find (λ y. not (has m.claim y)) (held w s) ≡ Some x → ⊥
   none-outside f may true is m there first =
-    let found = first-stands (has m.claim) (held w s) x first in
-    let claimed : has m.claim x ≡ true = f.held w m.claim (record { member = m; there = there; current = is; is_claim = refl }) x found.0 in
-    cc
+      let found = first-stands (has m.claim) (held w s) x first in
+      let claimed : has m.claim x ≡ true = f.held w m.claim (record { member = m; there = there; current = is; is_claim = refl }) x found.0 in
+      cc
   none-outside f may false is m there first =
-    let none : None ≡ Some x = subst (λ (items : List Item). find (λ y. not (has m.claim y)) items ≡ Some x) (may is) first in
-    cc
+      let none : None ≡ Some x = subst (λ (items : List Item). find (λ y. not (has m.claim y)) items ≡ Some x) (may is) first in
+      cc
 
   row-refuses : {A : Type 0} (o : Option Member) (refusal : Member → Option GroupFault) (done : A) → ((m : Member) → o ≡ Some m → refusal m ≡ Some (NotClaimed x) → ⊥)
       → for_member o (λ m. unless (refusal m) done) ≡ Err (NotClaimed x) → ⊥
@@ -78,6 +77,6 @@ module _ (w : ℕ) (s : Cluster) (x : Item) where
 -- where memory isn't wanting the answer is the event's
 pub claimed : {w : ℕ} {old new : Kept} {result : Result ℕ WorldFault} → GroupFacts old.state → MayJoin w old.state → IsOrWants (join w) old new result
     → (x : Item) → result ≡ Err (Group (NotClaimed x)) → ⊥
-claimed {w} {old} facts may did x is = never-unclaimed w old.state x facts may (ap (λ (a : Answer ℕ). a.0) (did.done other) ∙ is) where
+claimed {w} {old} {new} {result} facts may did x is = never-unclaimed w old.state x facts may (ap (λ (a : Answer ℕ). a.0) (did.done other) ∙ is) where
   other : result ≢ Err Memory
   other wants = cc

@@ -18,7 +18,6 @@ use cw_types::Item;
 impl<D: Disk> World<D> {
     /// A worker joins, and may run what it holds; where it is no member it enters first, and then holds nothing. The
     /// answer is the round. It is never told that it holds what isn't in its claim.
-    #[tactic(auto, using(crate::proofs::Claimed::claimed))]
     pub fn join(&mut self, w: u32) -> Result<u64, WorldFault>
         requires there { w < length self.old.state.rows }
         requires may { MayJoin w self.old.state }
