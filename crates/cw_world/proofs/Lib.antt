@@ -11,3 +11,4 @@ pub mod Ended
 pub mod OwnOffsets
 pub mod Acting
 pub mod Breaking
+pub mod Claimed

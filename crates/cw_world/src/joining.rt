@@ -1,5 +1,8 @@
 //! Workers join the group, the group lets members go, and the time goes on.
-ghost use Rattle.std.specs.Prelude.{◌≡◌, ◌<◌, length, Ok};
+ghost use Rattle.std.specs.Prelude.{◌≡◌, ◌<◌, length, Ok, Err};
+ghost use Rattle.cw_types.specs.declared.ids.Item.{Item};
+ghost use Rattle.cw_group.specs.declared.answers.GroupFault.{GroupFault};
+ghost use Rattle.cw_model.specs.declared.fault.WorldFault.{WorldFault};
 ghost use Rattle.cw_model.specs.EventsGroups.{join, MayJoin};
 ghost use Rattle.cw_model.specs.EventsItems.{restart};
 ghost use Rattle.cw_model.specs.EventsWorkers.{expire, clock};
@@ -14,11 +17,12 @@ use cw_types::Item;
 
 impl<D: Disk> World<D> {
     /// A worker joins, and may run what it holds; where it is no member it enters first, and then holds nothing. The
-    /// answer is the round.
+    /// answer is the round. It is never told that it holds what isn't in its claim.
     pub fn join(&mut self, w: u32) -> Result<u64, WorldFault>
         requires there { w < length self.old.state.rows }
         requires may { MayJoin w self.old.state }
-        ensures { DoesOrWants (join w) self.old self.new result }
+        ensures does { DoesOrWants (join w) self.old self.new result }
+        ensures claimed { (item : Item) → result ≡ Err (WorldFault.Group (GroupFault.NotClaimed item)) → ⊥ }
     {
         rounds_keep_facts();
         self.cluster.join(w)

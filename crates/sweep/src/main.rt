@@ -1,13 +1,13 @@
 //! `sweep`: images of a cluster's eight disks: those that a table asks for, and those that a stop in every call of each
 //! disk leaves.
 //!
-//! Its input has a line for each image: which script left the disks, what is changed of one of them, and maybe a
-//! directive. The image is opened, with that directive as the script, and what comes of it is printed. Then stops are
-//! swept: a script of a producer, a source with a sink, alterations of offsets and compactions, of which each line
-//! makes at most one event that is written, is played by the top call over eight disks in memory. One of them fails
-//! from some call on, for each number of that call until a run meets no failure. Behind each stop the three images of
-//! the disks are opened again with an empty script, and have to hold the logs as they stood before the line in hand or
-//! behind it.
+//! Its input has a line for each image: which script left the disks, what is changed of one of them (its length, or a
+//! byte, or that its calls fail from some number on), and maybe a directive. The image is opened, with it as the
+//! script, and what comes of it is printed. Then stops are swept: a script of a producer, a source with a sink,
+//! alterations of offsets and compactions, of which each line makes at most one event that is written, is played by the
+//! top call over eight disks in memory. One of them fails from some call on, for each number of that call until a run
+//! meets no failure. Behind each stop the three images of the disks are opened again with an empty script, and have to
+//! hold the logs as they stood before the line in hand or behind it.
 //! It promises no more than that it ends safely: what it finds is its stored output. It stands on the top call.
 #![tactic(auto)]
 

@@ -16,8 +16,8 @@ join-requires-clause-may g c = c.rules_make_events_that_may_be_made.ensures.join
 
 pub returns-in-Ok : goal.returns-in-Ok
 returns-in-Ok g c = wants-tick g.D.Disk (join c.args.w) (joined) c.args.w c.args.world.now c.join.new.self c.join.result (Ok (outcome.Join c.in-Ok.round)) c.requires.live (c.requires.turn.follows)
-    (sym (ap (λ (r : Result (ℕ) WorldFault). told r (λ x. (joined) x c.join.new.self.state)) c.in-Ok.is)) c.join.ensures
+    (sym (ap (λ (r : Result (ℕ) WorldFault). told r (λ x. (joined) x c.join.new.self.state)) c.in-Ok.is)) c.join.ensures.does
 
 pub returns-in-Err : goal.returns-in-Err
 returns-in-Err g c = wants-tick g.D.Disk (join c.args.w) (joined) c.args.w c.args.world.now c.join.new.self c.join.result (Err c.in-Err.fault) c.requires.live (c.requires.turn.follows)
-    (sym (ap (λ (r : Result (ℕ) WorldFault). told r (λ x. (joined) x c.join.new.self.state)) c.in-Err.is)) c.join.ensures
+    (sym (ap (λ (r : Result (ℕ) WorldFault). told r (λ x. (joined) x c.join.new.self.state)) c.in-Err.is)) c.join.ensures.does
