@@ -1,16 +1,18 @@
 -- Connections over links, one more and two lists of them together; and the receipts that they left, in whatever order.
-use Rattle.std.proofs.Common.{◌≡◌, ℕ, List, [], ◌∷◌, ◌++◌, Option, Result, Ok, Err, IfOk, refl, sym, ap, ◌∙◌, append_assoc, subst}
+use Rattle.std.proofs.Common.{◌≡◌, ℕ, ◌+◌, List, [], ◌∷◌, ◌++◌, Option, Result, Ok, Err, IfOk, length, refl, sym, ap, ◌∙◌, append_assoc, subst, arith}
 use Rattle.std.specs.List.{AllByRecursion, flat_map}
 use Rattle.std.specs.List.Sorted.{IsPermutation}
 use Rattle.std.proofs.lemmas.Grind.{flat_map-append}
 use Rattle.std.proofs.lemmas.List.{append-nil, flat_map_more, map-append}
-use Rattle.std.proofs.lemmas.List.Sorted.{IsPermutation-append_comm, IsPermutation-append_right, IsPermutation-refl, IsPermutation-trans}
+use Rattle.std.proofs.lemmas.List.Sorted.{IsPermutation-append_comm, IsPermutation-append_right, IsPermutation-map, IsPermutation-refl, IsPermutation-trans}
 use Rattle.cw_conn.specs.Exchanges.{entries_of}
 use Rattle.cw_conn.specs.Talked.{moment, Talked}
 use Rattle.cw_conn.specs.declared.ends.ConnEnd.{ConnEnd}
+use Rattle.cw_line.specs.Numbers.{IsEachOnce}
 use Rattle.cw_model.specs.declared.journal.JournalEntry.{JournalEntry}
+use Rattle.cw_net.specs.declared.listener.Listener as listener
 use Rattle.cw_world.specs.Receipts.{ReceiptState}
-use Rattle.cw_serve.specs.Talking.{AreTalks, IsTalk, Serves, Talk, entries_in}
+use Rattle.cw_serve.specs.Talking.{AreTalks, HaveTalked, IsTalk, Serves, Talk, entries_in}
 
 -- ---- one connection
 
@@ -46,10 +48,6 @@ all_of_both P (x ∷ xs) ys all also = (all.0, all_of_both P xs ys all.1 also)
 pub no_talks : AreTalks [] []
 no_talks = record { talks = []; each = tt; numbers_are = refl; entries_are = refl }
 
--- the same where both lists are empty
-pub no_talks_yet : (numbers : List ℕ) (receipts : List ReceiptState) → numbers ≡ [] → receipts ≡ [] → AreTalks numbers (entries_in receipts)
-no_talks_yet numbers receipts none nothing = subst (λ (x : List ℕ × List ReceiptState). AreTalks x.0 (entries_in x.1)) (λ i. (sym none i, sym nothing i)) no_talks
-
 pub both_talk : (numbers others : List ℕ) (entries more : List JournalEntry) → AreTalks numbers entries → AreTalks others more → AreTalks (numbers ++ others) (entries ++ more)
 both_talk numbers others entries more first then = record {
   talks = first.talks ++ then.talks;
@@ -59,46 +57,72 @@ both_talk numbers others entries more first then = record {
 }
 
 -- one more, whose entries come behind those before and others
-pub one_more : (numbers : List ℕ) (number : ℕ) (left held : Option (List ℕ)) (others before behind : List JournalEntry) → AreTalks numbers (others ++ before) → Serves number left held before behind
-    → AreTalks (numbers ++ number ∷ []) (others ++ behind)
-one_more numbers number left held others before behind talks serves =
+pub one_more : (numbers now : List ℕ) (number : ℕ) (left held : Option (List ℕ)) (others before behind : List JournalEntry) → now ≡ numbers ++ number ∷ [] → AreTalks numbers (others ++ before) → Serves number left held before behind
+    → AreTalks now (others ++ behind)
+one_more numbers now number left held others before behind taken talks serves =
     let entries = serves.talk.behind.entries in
     let one : AreTalks (number ∷ []) entries = record { talks = serves.talk ∷ []; each = (serves.is, tt); numbers_are = ap (λ n. n ∷ []) serves.number_is; entries_are = append-nil entries } in
-    subst (AreTalks (numbers ++ number ∷ [])) (append_assoc others before entries ∙ ap (λ es. others ++ es) (sym serves.grew))
-    (both_talk numbers (number ∷ []) (others ++ before) entries talks one)
+    let grew = append_assoc others before entries ∙ ap (λ es. others ++ es) (sym serves.grew) in
+    subst (λ (x : List ℕ × List JournalEntry). AreTalks x.0 x.1) (λ i. (sym taken i, grew i)) (both_talk numbers (number ∷ []) (others ++ before) entries talks one)
+
+-- receipts of no call add nothing
+pub beside_none : (numbers : List ℕ) (entries : List JournalEntry) (receipts : List ReceiptState) → receipts ≡ [] → AreTalks numbers entries → AreTalks numbers (entries ++ entries_in receipts)
+beside_none numbers entries receipts none talks = subst (AreTalks numbers) (sym (append-nil entries) ∙ ap (λ l. entries ++ entries_in l) (sym none)) talks
 
 -- ---- what was kept in several lists
 
+empty : {X : Type 0} (xs : List X) → length xs ≡ 0 → xs ≡ []
+empty [] none = refl
+empty (x ∷ xs) none = absurd (omega (arith, none))
+
 module _ {X : Type 0} (f : X → List ReceiptState) where
   -- what one more list keeps comes behind
-  pub kept_behind : (xs : List X) (x : X) → flat_map f (xs ++ x ∷ []) ≡ flat_map f xs ++ f x
+  kept_behind : (xs : List X) (x : X) → flat_map f (xs ++ x ∷ []) ≡ flat_map f xs ++ f x
   kept_behind xs x = sym (flat_map_more f [] xs x)
 
-  pub entries_behind : (xs : List X) (x : X) → entries_in (flat_map f (xs ++ x ∷ [])) ≡ entries_in (flat_map f xs) ++ entries_in (f x)
-  entries_behind xs x = ap entries_in (kept_behind xs x) ∙ map-append (λ (r : ReceiptState). r.entry) (flat_map f xs) (f x)
+  -- before any link was taken and anything kept
+  pub no_talks_yet : (numbers : List ℕ) (xs : List X) → numbers ≡ [] → length xs ≡ 0 → AreTalks numbers (entries_in (flat_map f xs))
+  no_talks_yet numbers xs none nothing =
+      subst (λ (x : List ℕ × List X). AreTalks x.0 (entries_in (flat_map f x.1))) (λ i. (sym none i, sym (empty xs nothing) i)) no_talks
+
+  -- the last list's entries are those of its receipts
+  pub kept_last : (numbers : List ℕ) (xs ys : List X) (x : X) → ys ≡ xs ++ x ∷ [] → AreTalks numbers (entries_in (flat_map f xs) ++ entries_in (f x)) → AreTalks numbers (entries_in (flat_map f ys))
+  kept_last numbers xs ys x is talks =
+      let all = ap (flat_map f) is ∙ kept_behind xs x in
+      subst (AreTalks numbers) (sym (ap entries_in all ∙ map-append (λ (r : ReceiptState). r.entry) (flat_map f xs) (f x))) talks
 
   -- a handler's connections come behind those that are known
-  pub absorbed : (numbers others : List ℕ) (xs : List X) (x : X) → AreTalks numbers (entries_in (flat_map f xs)) → AreTalks others (entries_in (f x))
-      → AreTalks (numbers ++ others) (entries_in (flat_map f (xs ++ x ∷ [])))
-  absorbed numbers others xs x first then = subst (AreTalks (numbers ++ others)) (sym (entries_behind xs x))
-      (both_talk numbers others (entries_in (flat_map f xs)) (entries_in (f x)) first then)
+  pub absorbed : (numbers others now : List ℕ) (xs ys : List X) (x : X) → now ≡ numbers ++ others → ys ≡ xs ++ x ∷ [] → AreTalks numbers (entries_in (flat_map f xs)) → AreTalks others (entries_in (f x))
+      → AreTalks now (entries_in (flat_map f ys))
+  absorbed numbers others now xs ys x taken is talks more =
+      kept_last now xs ys x is (subst (λ l. AreTalks l (entries_in (flat_map f xs) ++ entries_in (f x))) (sym taken) (both_talk numbers others (entries_in (flat_map f xs)) (entries_in (f x)) talks more))
 
   -- the last list is put behind what is gathered
-  pub gathered : (all room : List ReceiptState) (xs rest : List X) (x : X) → IsPermutation all (room ++ flat_map f xs) → xs ≡ rest ++ x ∷ []
-      → IsPermutation all ((room ++ f x) ++ flat_map f rest)
-  gathered all room xs rest x same is =
+  pub gathered : (all room now : List ReceiptState) (xs rest : List X) (x : X) → now ≡ room ++ f x → xs ≡ rest ++ x ∷ [] → IsPermutation all (room ++ flat_map f xs)
+      → IsPermutation all (now ++ flat_map f rest)
+  gathered all room now xs rest x behind is same =
       let last = ap (flat_map f) is ∙ kept_behind rest x in
       let turned = IsPermutation-append_right room (flat_map f rest ++ f x) (f x ++ flat_map f rest) (IsPermutation-append_comm (flat_map f rest) (f x)) in
-      subst (IsPermutation all) (sym (append_assoc room (f x) (flat_map f rest)))
+      subst (IsPermutation all) (sym (ap (λ l. l ++ flat_map f rest) behind ∙ append_assoc room (f x) (flat_map f rest)))
       (IsPermutation-trans all (room ++ (flat_map f rest ++ f x)) (room ++ (f x ++ flat_map f rest)) (subst (λ (l : List ReceiptState). IsPermutation all (room ++ l)) last same) turned)
 
-  -- before the first list
-  pub none_gathered : (room : List ReceiptState) (xs : List X) → room ≡ [] → IsPermutation (flat_map f xs) (room ++ flat_map f xs)
-  none_gathered room xs none = subst (λ (l : List ReceiptState). IsPermutation (flat_map f xs) (l ++ flat_map f xs)) (sym none) (IsPermutation-refl (flat_map f xs))
-
   -- and behind the last, in whatever order they are told
-  pub all_gathered : {V E : Type 0} (items : V → List ReceiptState) (all room : List ReceiptState) (xs : List X) (told : Result V E) → xs ≡ [] → IsPermutation all (room ++ flat_map f xs)
+  pub all_gathered : {V E : Type 0} (items : V → List ReceiptState) (all room : List ReceiptState) (xs : List X) (told : Result V E) → length xs ≡ 0 → IsPermutation all (room ++ flat_map f xs)
       → IfOk told (λ v. IsPermutation room (items v)) → IfOk told (λ v. IsPermutation all (items v))
-  all_gathered items all room xs (Ok v) none same then =
-      IsPermutation-trans all room (items v) (subst (IsPermutation all) (ap (λ l. room ++ flat_map f l) none ∙ append-nil room) same) then
-  all_gathered items all room xs (Err e) none same then = tt
+  all_gathered items all room xs (Ok v) none same ordered =
+      IsPermutation-trans all room (items v) (subst (IsPermutation all) (ap (λ l. room ++ flat_map f l) (empty xs none) ∙ append-nil room) same) ordered
+  all_gathered items all room xs (Err e) none same ordered = tt
+
+-- ---- all that were accepted
+
+pub have_talked : {N K : Type 0} (L : listener.Ghosts N K) (agreed : Type 0) (old at new : N) (accepted pushed : ℕ) (numbers : List ℕ) (kept receipts : List ReceiptState) → L.given at ≡ L.given old + accepted → new ≡ at → pushed ≡ accepted
+    → IsEachOnce pushed numbers → AreTalks numbers (entries_in kept) → (agreed → IsPermutation kept receipts) → HaveTalked L agreed old new receipts
+have_talked L agreed old at new accepted pushed numbers kept receipts given same all once talks gathers = record {
+  accepted = accepted;
+  numbers = numbers;
+  entries = entries_in kept;
+  given = ap L.given same ∙ given;
+  once = subst (λ n. IsEachOnce n numbers) all once;
+  talks = talks;
+  answered = λ is. IsPermutation-map (λ (r : ReceiptState). r.entry) kept receipts (gathers is);
+}

@@ -7,7 +7,6 @@ use Rattle.cw_net.specs.declared.listener.Listener as listener
 use Rattle.cw_desk.specs.declared.comparing.Disagree.{Disagree}
 use Rattle.cw_desk.specs.Comparing.{AreTheJournal, IsFound, receipts_in}
 use Rattle.cw_world.specs.World.{WorldState}
-use Rattle.cw_serve.specs.Talking.{HaveTalked}
 use Rattle.cw_serve.specs.declared.ends.Served.{Served}
 use Rattle.cw_serve.specs.declared.ends.ServeEnd.{ServeEnd}
 use Rattle.cw_serve.specs.declared.ends.ServeEnd.TheVariants as end
@@ -40,4 +39,3 @@ pub record IsServed {D U N K : Type 0} (O : outlet.Ghosts U) (L : listener.Ghost
   pub net_fault : s.end ≡ end.NetFault → Rose (L.faults net) (L.faults s.net)
   pub later_outlet : O.faults began ≤ O.faults s.outlet
   pub later_net : L.faults net ≤ L.faults s.net
-  pub talked : HaveTalked L (IsAgreed s.end) net s.net s.receipts.items

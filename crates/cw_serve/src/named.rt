@@ -3,7 +3,8 @@ ghost use Rattle.std.specs.Prelude.{◌≡◌, ◌+◌, ℕ, [], None};
 ghost use Rattle.cw_turns.specs.Going.{GoesOn};
 ghost use Rattle.cw_line.specs.Sides.{IsFirstOf, name_of};
 ghost use Rattle.cw_serve.specs.Starting.{AreServed};
-ghost use Rattle.cw_serve.specs.Serving.{IsServed};
+ghost use Rattle.cw_serve.specs.Serving.{IsAgreed, IsServed};
+ghost use Rattle.cw_serve.specs.Talking.{HaveTalked};
 
 use crate::accepting::accept_beside;
 use crate::beginning::{Ready, prepare};
@@ -38,7 +39,7 @@ pub struct Given<D: Disk, U, N, C> {
 }
 
 /// What a server leaves that couldn't begin for want of memory.
-#[tactic(auto, using(crate::proofs::Unbegun::none_are, crate::proofs::Unbegun::none_talked))]
+#[tactic(auto, using(crate::proofs::Unbegun::none_are))]
 pub fn unserved<D: Disk, U: Outlet, N: Listener>(
     alloc: Global,
     world: World<D>,
@@ -48,6 +49,7 @@ pub fn unserved<D: Disk, U: Outlet, N: Listener>(
     requires fresh { (world.state.journal ≡ []) × (world.state.closed ≡ None) }
     ensures world { result.world ≡ world }
     ensures served { (conns : ℕ) → IsServed U.Outlet N.Listener conns outlet net result }
+    ensures talked { HaveTalked N.Listener (IsAgreed result.end) net result.net result.receipts.items }
 {
     Served {
         world,
@@ -85,6 +87,7 @@ where
     requires sizes { AreServed given.sizes }
     ensures goes_on { GoesOn D.Disk J.start result.world }
     ensures served { IsServed U.Outlet N.Listener given.sizes.conns given.outlet given.net result }
+    ensures talked { HaveTalked N.Listener (IsAgreed result.end) given.net result.net result.receipts.items }
 {
     let (book, mut rest) = blank.open::<J>();
     let mut acceptor = Acceptor::<J, N::Link>::new(pass);

@@ -11,3 +11,6 @@ pub returns-clause-outlet_fault : goal.returns-clause-outlet_fault
 returns-clause-outlet_fault g c = λ is.
     subst (λ left. Rose g.J.Begun.faults (g.U.Outlet.faults left)) (sym c.conclude.ensures.handed.1)
     (c.into_parts-outlet.ensures.rose (c.conclude.ensures.outlet_fault is))
+
+pub returns-clause-same : goal.returns-clause-same
+returns-clause-same g c = c.conclude.ensures.same _ c.gather-told.ensures.same

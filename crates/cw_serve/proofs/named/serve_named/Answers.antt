@@ -1,10 +1,7 @@
-use Rattle.std.proofs.Common.{◌≡◌, ◌+◌, ◌≤◌, ◌⊎◌, ⊎_elim, inl, inr, true, arith, ap, sym, subst, ◌∙◌}
-use Rattle.std.specs.List.{flat_map}
-use Rattle.std.proofs.lemmas.List.Sorted.{IsPermutation-map}
+use Rattle.std.proofs.Common.{rules, ◌≡◌, ◌+◌, ◌≤◌, ◌⊎◌, ⊎_elim, inl, inr, true, arith, ap, sym, subst, ◌∙◌}
 use Rattle.cw_types.specs.Faults.{Rose}
 use Rattle.cw_turns.specs.Going.{GoesOn}
-use Rattle.cw_world.specs.Receipts.{ReceiptState}
-use Rattle.cw_serve.specs.Talking.{entries_in}
+use Rattle.cw_serve.proofs.Talking.{have_talked}
 use Rattle.cw_serve.proofs.named.serve_named.Goals as goal
 
 pub returns-in_default-clause-goes_on : goal.returns-in_default-clause-goes_on
@@ -39,13 +36,15 @@ returns-clause-served g c =
       net_fault = λ is. subst (λ n. Rose (L.faults net) (L.faults n)) left (a.ensures.failed (end.net_fault is));
       later_outlet = subst (λ faults. faults ≤ g.U.Outlet.faults c.finish.result.outlet) c.requires.outlet end.later;
       later_net = subst (λ n. L.faults net ≤ L.faults n) left a.ensures.later;
-      talked = record {
-        accepted = a.result.pushed;
-        numbers = c.end_line-books.new.acceptor.taken;
-        entries = entries_in (flat_map (λ k. k.receipts.items) c.end_line-books.result.items);
-        given = subst (λ n. L.given n ≡ L.given net + a.result.pushed) left a.ensures.given;
-        once = c.end_line-books.ensures.each_once;
-        talks = c.end_line-books.ensures.talks;
-        answered = λ agreed. IsPermutation-map (λ (r : ReceiptState). r.entry) _ _ (end.same agreed);
-      };
     }
+
+pub returns-in_default-clause-talked : goal.returns-in_default-clause-talked
+returns-in_default-clause-talked g c = c.unserved.ensures.talked
+
+pub returns-clause-talked : goal.returns-clause-talked
+returns-clause-talked g c =
+    let a = c.accept_beside-accepted in
+    let line = c.end_line-books.ensures in
+    let pushed : a.new.acceptor.pushed ≡ a.result.pushed = search rules in
+    have_talked g.N.Listener _ c.args.given.net a.new.net _ a.result.pushed a.new.acceptor.pushed _ _ c.finish.result.receipts.items
+    a.ensures.given c.finish.ensures.net pushed line.each_once line.talks c.finish.ensures.same

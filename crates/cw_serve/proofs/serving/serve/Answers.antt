@@ -33,4 +33,4 @@ pub returns-in_default-clause-ledger : goal.returns-in_default-clause-ledger
 returns-in_default-clause-ledger g c = (c.unserved.ensures.served c.args.sizes.conns).ledger
 
 pub returns-in_default-clause-talked : goal.returns-in_default-clause-talked
-returns-in_default-clause-talked g c = (c.unserved.ensures.served c.args.sizes.conns).talked
+returns-in_default-clause-talked g c = c.unserved.ensures.talked

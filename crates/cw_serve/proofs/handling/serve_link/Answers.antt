@@ -1,0 +1,8 @@
+use Rattle.cw_serve.specs.Talking.{entries_in}
+use Rattle.cw_serve.proofs.Talking.{served}
+use Rattle.cw_serve.proofs.handling.serve_link.Goals as goal
+
+pub returns : goal.returns
+returns g c =
+    served c.args.ticket.number c.serve_conn.result (g.L.Link.left c.args.ticket.link) (g.L.Link.held c.args.ticket.link) _ _
+    (entries_in c.args.kept.receipts.items) (entries_in c.serve_conn.new.desk.kept.receipts.items) c.serve_conn.ensures.talked.1
