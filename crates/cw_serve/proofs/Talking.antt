@@ -106,6 +106,10 @@ module _ {X : Type 0} (f : X → List ReceiptState) where
       subst (IsPermutation all) (sym (ap (λ l. l ++ flat_map f rest) behind ∙ append_assoc room (f x) (flat_map f rest)))
       (IsPermutation-trans all (room ++ (flat_map f rest ++ f x)) (room ++ (f x ++ flat_map f rest)) (subst (λ (l : List ReceiptState). IsPermutation all (room ++ l)) last same) turned)
 
+  -- before the first list nothing is gathered
+  pub none_gathered : (room : List ReceiptState) (xs : List X) → length room ≡ 0 → IsPermutation (flat_map f xs) (room ++ flat_map f xs)
+  none_gathered room xs none = subst (λ (l : List ReceiptState). IsPermutation (flat_map f xs) (l ++ flat_map f xs)) (sym (empty room none)) (IsPermutation-refl (flat_map f xs))
+
   -- and behind the last, in whatever order they are told
   pub all_gathered : {V E : Type 0} (items : V → List ReceiptState) (all room : List ReceiptState) (xs : List X) (told : Result V E) → length xs ≡ 0 → IsPermutation all (room ++ flat_map f xs)
       → IfOk told (λ v. IsPermutation room (items v)) → IfOk told (λ v. IsPermutation all (items v))

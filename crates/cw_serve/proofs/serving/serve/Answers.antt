@@ -1,3 +1,6 @@
+use Rattle.std.proofs.Common.{sym, subst}
+use Rattle.cw_turns.specs.Going.{GoesOn, start_of}
+use Rattle.cw_serve.proofs.Begun.{begun}
 use Rattle.cw_serve.proofs.serving.serve.Goals as goal
 
 pub returns-in_default-clause-differs : goal.returns-in_default-clause-differs
@@ -34,3 +37,7 @@ returns-in_default-clause-ledger g c = (c.unserved.ensures.served c.args.sizes.c
 
 pub returns-in_default-clause-talked : goal.returns-in_default-clause-talked
 returns-in_default-clause-talked g c = c.unserved.ensures.talked
+
+pub returns-in_default-clause-goes_on : goal.returns-in_default-clause-goes_on
+returns-in_default-clause-goes_on g c = subst (GoesOn g.D.Disk (start_of g.D.Disk c.args.world)) (sym c.unserved.ensures.world)
+    (begun g.D.Disk c.args.world c.requires.alive c.requires.names)
