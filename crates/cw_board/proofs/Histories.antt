@@ -1,13 +1,9 @@
--- What of a board may cross threads. A history that only proofs read owns nothing, so threads may share it, and what
--- has one.
-use denote.RattleType.{RattleType}
+-- What of a board's records may go to other threads, and be shared by them: the config states, and what is put.
 use denote.Builtin.{u64}
-use denote.Param.Send.{IsSend, IsSync, struct_send, struct_sync, whole-keyless, sendable}
-use denote.Struct.Owning.{shape, to}
+use denote.Param.Send.{IsSend, IsSync, struct_send, struct_sync, sendable}
 use Rattle.std.proofs.Crossing.{crosses}
 use Rattle.std.proofs.MapsCrossing.{crosses as maps_cross, BTreeMap-send, BTreeMap-sync}
 use Rattle.std.specs.contracts.option.Option as Option
-use Rattle.std.specs.contracts.marker.PhantomData as Mark
 use Rattle.cw_types.specs.contracts.past.Past as Past
 use Rattle.cw_types.proofs.past.Past.TheSendSync as past
 use Rattle.cw_types.specs.contracts.name.Name as Name
@@ -25,12 +21,6 @@ use Rattle.cw_board.specs.contracts.history.Front as Front
 use Rattle.cw_board.specs.contracts.shelf.Shelf as Shelf
 use Rattle.cw_board.specs.contracts.shelves.Shelves as Shelves
 use Rattle.cw_board.specs.contracts.shelves.Post as Post
-
-pub past_sync : (A : RattleType) → IsSync (Past.the_row A)
-past_sync A =
-    let O = Past.the_type A in
-    let mark : IsSend (Mark.the_field A).row = search sendable in
-    record { shared = λ d b o κ q. whole-keyless _ _ (λ z vs. ((struct_send (shape O) (mark, tt)).owned (to O z) vs, tt)) q d b o }
 
 text_send : IsSend Text.the_row
 text_send = search (sendable, crosses, maps_cross) depth 20
@@ -111,7 +101,7 @@ records_send : IsSend (Past.the_row Record.the_row)
 records_send = past.the_send Record.the_row record_send
 
 records_sync : IsSync (Past.the_row Record.the_row)
-records_sync = past_sync Record.the_row
+records_sync = past.the_sync Record.the_row
 
 inside_send : IsSend State.TheInside.the_row
 inside_send = search (sendable, records_send, tables_send) depth 12
@@ -131,7 +121,7 @@ shelf_send = search (sendable, state_send) depth 12
 shelf_sync : IsSync Shelf.the_row
 shelf_sync = search (sendable, state_sync) depth 12
 
-front_send : IsSend Front.the_row
+pub front_send : IsSend Front.the_row
 front_send = search (sendable, seen.the_send) depth 12
 
 front_sync : IsSync Front.the_row

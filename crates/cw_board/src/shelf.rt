@@ -15,9 +15,6 @@ pub struct Shelf {
     ghost counted: { count ≡ length config },
 }
 
-// The history in a config state is read by proofs alone.
-unsafe impl Sync for Shelf {}
-
 fn text_of(applied: &Applied) -> Option<&[u8]>
     ensures { option_map (λ text. text.now) result ≡ applied.now.value }
 {
