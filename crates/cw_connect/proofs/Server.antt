@@ -15,6 +15,7 @@ use Rattle.cw_log.specs.declared.fault.Harm.{Harm}
 use Rattle.cw_model.specs.Facts.{AreFacts}
 use Rattle.cw_model.specs.Reopening.{stored_of}
 use Rattle.cw_model.specs.State.{Cluster, Setting}
+use Rattle.cw_io.specs.declared.link.Link as link
 use Rattle.cw_net.specs.declared.listener.Listener as listener
 use Rattle.cw_open.specs.Judged.{HasFirstHarm}
 use Rattle.cw_open.specs.Leaving.{StandForLists}
@@ -141,11 +142,11 @@ module _ {D N L : Type 0} (n : listener.Ghosts N L) (conns : ℕ) (world : World
 has_agreed : (e : ServeEnd) (status : Status) → status ≡ status_of_serve e → HasAgreed status → IsAgreed e
 has_agreed e status is agreed d odds = agreed d.at d.kept d.found (is ∙ ap status_of_serve odds)
 
-pub talked_under : {N L : Type 0} (n : listener.Ghosts N L) (old new : N) (receipts : List ReceiptState) (e : ServeEnd) (status : Status) → status ≡ status_of_serve e → HaveTalked n (IsAgreed e) old new receipts
-    → HaveTalked n (HasAgreed status) old new receipts
-talked_under n old new receipts e status is talked = record {
-  accepted = talked.accepted;
-  numbers = talked.numbers;
+pub talked_under : {N L : Type 0} (n : listener.Ghosts N L) (k : link.Ghosts L) (old new : N) (receipts : List ReceiptState) (e : ServeEnd) (status : Status) → status ≡ status_of_serve e → HaveTalked n k (IsAgreed e) old new receipts
+    → HaveTalked n k (HasAgreed status) old new receipts
+talked_under n k old new receipts e status is talked = record {
+  links = talked.links;
+  tickets = talked.tickets;
   entries = talked.entries;
   given = talked.given;
   once = talked.once;
@@ -220,8 +221,8 @@ module _ {N L : Type 0} (n : listener.Ghosts N L) (conns : ℕ) (left : Cluster)
   never_write : (status : Status) → status ≡ WriteFault → IsServeDue n conns status left net_old net_new journal receipts → ⊥
   never_write status is due = subst (λ (s : Status). IsServeDue n conns s left net_old net_new journal receipts) is due
 
-module _ {D H U N L : Type 0} (G : Ghosts D) (S : shelf.Ghosts H) (n : listener.Ghosts N L) (options : ServeOptions) (status : Status) (on : H) (old new : Disks D) (outlet_old outlet_new : U) (net_old net_new : N)
-    (journal : JournalState) (receipts : List ReceiptState) (ran : IsServeRun G S n options status on old new outlet_old outlet_new net_old net_new journal receipts) where
+module _ {D H U N L : Type 0} (G : Ghosts D) (S : shelf.Ghosts H) (n : listener.Ghosts N L) (k : link.Ghosts L) (options : ServeOptions) (status : Status) (on : H) (old new : Disks D) (outlet_old outlet_new : U) (net_old net_new : N)
+    (journal : JournalState) (receipts : List ReceiptState) (ran : IsServeRun G S n k options status on old new outlet_old outlet_new net_old net_new journal receipts) where
   -- files with a harm are refused
   pub serve_refused : ((disk : DiskName) (gate : ℕ) (what : Harm) → status ≡ Damaged disk gate what → (files : DiskFiles) → TellAll G old files → HasFirstHarm files disk gate what) → ((setting : Setting) (s : Cluster) (files : DiskFiles) (at : DiskName) (place : ℕ) (harm : Harm) → AreFacts setting s → StandForLists files (stored_of s) → HasFirstHarm files at place harm → ⊥) →
       (files : DiskFiles) → TellAll G old files → (at : DiskName) (place : ℕ) (harm : Harm) → HasFirstHarm files at place harm → IsRefusedFor at place harm status

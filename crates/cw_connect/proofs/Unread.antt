@@ -6,6 +6,7 @@ use Rattle.cw_io.specs.declared.shelf.Shelf as shelf
 use Rattle.cw_io.specs.declared.traits.Source.{Ghosts as Input}
 use Rattle.cw_io.specs.declared.traits.Sink.{Ghosts as Output}
 use Rattle.cw_log.specs.declared.fault.Harm.{Harm}
+use Rattle.cw_io.specs.declared.link.Link as link
 use Rattle.cw_net.specs.declared.listener.Listener as listener
 use Rattle.cw_types.specs.declared.logs.DiskName.{DiskName}
 use Rattle.cw_words.specs.Asked.{command_of}
@@ -59,13 +60,13 @@ usage_is = record {
 memory_or_usage : Memory ≡ Usage → ⊥
 memory_or_usage is = cc
 
-module _ {D I O H U N L : Type 0} (G : Ghosts D) (i : Input I) (o : Output O) (S : shelf.Ghosts H) (u : outlet.Ghosts U) (n : listener.Ghosts N L) (words : List (List ℕ)) (old : Handed D I O H U N)
+module _ {D I O H U N L : Type 0} (G : Ghosts D) (i : Input I) (o : Output O) (S : shelf.Ghosts H) (u : outlet.Ghosts U) (n : listener.Ghosts N L) (k : link.Ghosts L) (words : List (List ℕ)) (old : Handed D I O H U N)
     (journal : JournalState) (receipts : List ReceiptState) (none_kept : journal ≡ record { entries = []; name = None }) (no_receipts : receipts ≡ []) where
   nothing : NothingServed old.net old.net journal receipts
   nothing = record { same_net = refl; no_journal = none_kept; no_receipts = no_receipts }
 
   -- memory was wanting
-  pub wanting : HasEnded G i o S u n words Memory old old journal receipts
+  pub wanting : HasEnded G i o S u n k words Memory old old journal receipts
   wanting = record {
     drives = λ options asked. inl (record { nothing = (refl, refl, refl); left = inl refl });
     audits = λ options asked. (refl, inl refl);
@@ -100,7 +101,7 @@ module _ {D I O H U N L : Type 0} (G : Ghosts D) (i : Input I) (o : Output O) (S
   }
 
   -- or the words are no command
-  pub unasked : command_of words ≡ None → HasEnded G i o S u n words Usage old old journal receipts
+  pub unasked : command_of words ≡ None → HasEnded G i o S u n k words Usage old old journal receipts
   unasked none = record {
     drives = λ options asked. absurd (some_or_none (command_of words) (Drive options) asked none);
     audits = λ options asked. absurd (some_or_none (command_of words) (Audit options) asked none);
@@ -136,6 +137,6 @@ module _ {D I O H U N L : Type 0} (G : Ghosts D) (i : Input I) (o : Output O) (S
 
   -- as the fault of the words has it
   pub unread : (fault : WordsFault) (status : Status) → status ≡ status_of_words fault → (◌≡◌ {A = Result Command WordsFault} (Err fault) (Err why.Usage) → command_of words ≡ None) →
-      HasEnded G i o S u n words status old old journal receipts
-  unread why.Usage status is none = subst (λ (s : Status). HasEnded G i o S u n words s old old journal receipts) (sym is) (unasked (none refl))
-  unread why.Memory status is none = subst (λ (s : Status). HasEnded G i o S u n words s old old journal receipts) (sym is) wanting
+      HasEnded G i o S u n k words status old old journal receipts
+  unread why.Usage status is none = subst (λ (s : Status). HasEnded G i o S u n k words s old old journal receipts) (sym is) (unasked (none refl))
+  unread why.Memory status is none = subst (λ (s : Status). HasEnded G i o S u n k words s old old journal receipts) (sym is) wanting

@@ -10,6 +10,7 @@ use Rattle.cw_io.specs.declared.traits.Sink.{Ghosts as Output}
 use Rattle.cw_log.specs.declared.fault.Harm.{Harm}
 use Rattle.cw_model.specs.StandsFor.{Stored, StandFor}
 use Rattle.cw_model.specs.State.{Cluster, Setting}
+use Rattle.cw_io.specs.declared.link.Link as link
 use Rattle.cw_net.specs.declared.listener.Listener as listener
 use Rattle.cw_open.specs.Judged.{HasFirstHarm}
 use Rattle.cw_open.specs.Leaving.{StandForLists}
@@ -52,7 +53,7 @@ pub record Handed (D I O H U N : Type 0) : Type 0 where
   pub net : N
 
 pub record HasEnded {D I O H U N L : Type 0} (G : Ghosts D) (i : Input I) (o : Output O) (S : shelf.Ghosts H)
-    (u : outlet.Ghosts U) (n : listener.Ghosts N L) (words : List (List ℕ)) (status : Status)
+    (u : outlet.Ghosts U) (n : listener.Ghosts N L) (k : link.Ghosts L) (words : List (List ℕ)) (status : Status)
     (old new : Handed D I O H U N) (journal : JournalState) (receipts : List ReceiptState) : Type 0 where
   -- Either no cluster was opened, or what was read, written and left is due over the one that the disks held.
   pub drives : (options : Options) → command_of words ≡ Some (Drive options) →
@@ -72,7 +73,7 @@ pub record HasEnded {D I O H U N L : Type 0} (G : Ghosts D) (i : Input I) (o : O
   -- Either no cluster was opened, or a server ran over the one that the disks held, and what is left is due; nothing
   -- is read or written.
   pub serves : (options : ServeOptions) → command_of words ≡ Some (Serve options) →
-      IsServeRun G S n options status old.shelf old.disks new.disks old.outlet new.outlet old.net new.net journal
+      IsServeRun G S n k options status old.shelf old.disks new.disks old.outlet new.outlet old.net new.net journal
       receipts
   pub serves_apart : (options : ServeOptions) → command_of words ≡ Some (Serve options) →
       (new.input ≡ old.input) × (new.output ≡ old.output)

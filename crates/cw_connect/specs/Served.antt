@@ -1,6 +1,6 @@
 -- How a run of the command `serve` ended: nothing was opened, and why; or a cluster was opened, workers served Kafka
 -- Connect's REST API over it, and what they left is due. This project's own rule, as is the journal of the calls.
-use Rattle.std.specs.Prelude.{◌≡◌, ◌≢◌, ◌≤◌, ◌+◌, ◌⊎◌, ℕ, Bool, true, List, [], Option, Some, None}
+use Rattle.std.specs.Prelude.{◌≡◌, ◌≢◌, ◌≤◌, ◌+◌, ◌⊎◌, ℕ, Bool, true, List, [], length, Option, Some, None}
 use Rattle.logbook.specs.Pages.{Book}
 use Rattle.cw_desk.specs.Comparing.{AreTheJournal, IsFound}
 use Rattle.cw_desk.specs.declared.comparing.Member.{Member}
@@ -10,6 +10,7 @@ use Rattle.cw_disk.specs.declared.disks.Disks.{Disks}
 use Rattle.cw_io.specs.declared.shelf.Shelf as shelf
 use Rattle.cw_model.specs.Reopening.{stored_of}
 use Rattle.cw_model.specs.State.{Cluster, Setting}
+use Rattle.cw_io.specs.declared.link.Link as link
 use Rattle.cw_net.specs.declared.listener.Listener as listener
 use Rattle.cw_open.specs.Leaving.{LeaveLists, MayLeaveAll, StandForLists}
 use Rattle.cw_open.specs.Reopened.{DiskFiles}
@@ -59,7 +60,8 @@ pub record IsAtOdds (journal : JournalState) (at : ℕ) (kept : ReceiptState) (f
 
 -- all links were given: as many as were asked for, or the listener has ended
 abbrev pub AllGiven : {N L : Type 0} → listener.Ghosts N L → (conns : ℕ) → (net_old net_new : N) → Type 0
-AllGiven n conns net_old net_new = (n.given net_new ≡ n.given net_old + conns) ⊎ (n.ended net_new ≡ true)
+AllGiven n conns net_old net_new =
+    (length (n.given net_new) ≡ length (n.given net_old) + conns) ⊎ (n.ended net_new ≡ true)
 
 -- no disk failed, and the receipts are the journal
 pub record IsKept (left : Cluster) (journal : JournalState) (receipts : List ReceiptState) : Type 0 where
@@ -94,8 +96,8 @@ IsAgreed status = (at : ℕ) (kept : ReceiptState) (found : Option Member) → s
 -- A server ran over a cluster. What it left is behind a run of the events, and a stop leaves of the disks just files
 -- that stand for it, or where a disk failed for the states before and behind the event in flight. Over each link that
 -- was accepted there was one connection.
-pub record IsServedOver {D N L : Type 0} (G : Ghosts D) (n : listener.Ghosts N L) (conns : ℕ) (setting : Setting)
-    (opened : Cluster) (tells : Bool) (status : Status) (new : Disks D) (net_old net_new : N)
+pub record IsServedOver {D N L : Type 0} (G : Ghosts D) (n : listener.Ghosts N L) (k : link.Ghosts L) (conns : ℕ)
+    (setting : Setting) (opened : Cluster) (tells : Bool) (status : Status) (new : Disks D) (net_old net_new : N)
     (journal : JournalState) (receipts : List ReceiptState) : Type 0 where
   pub left : Cluster
   pub name : Book
@@ -104,12 +106,12 @@ pub record IsServedOver {D N L : Type 0} (G : Ghosts D) (n : listener.Ghosts N L
   pub whole : left.closed ≡ None → tells ≡ true → LeaveLists G new (stored_of left)
   pub cut_off : (disk : DiskName) (count : ℕ) → left.closed ≡ Some (disk, count) →
       IsCutOff G setting opened left tells new
-  pub few : n.given net_new ≤ n.given net_old + conns
-  pub talked : HaveTalked n (IsAgreed status) net_old net_new receipts
+  pub few : length (n.given net_new) ≤ length (n.given net_old) + conns
+  pub talked : HaveTalked n k (IsAgreed status) net_old net_new receipts
   pub due : IsServeDue n conns status left net_old net_new journal receipts
 
 -- a cluster was opened from the disks and the shelf, and a server ran over it
-pub record IsServed {D H N L : Type 0} (G : Ghosts D) (S : shelf.Ghosts H) (n : listener.Ghosts N L)
+pub record IsServed {D H N L : Type 0} (G : Ghosts D) (S : shelf.Ghosts H) (n : listener.Ghosts N L) (k : link.Ghosts L)
     (options : ServeOptions) (status : Status) (on : H) (old new : Disks D) (net_old net_new : N)
     (journal : JournalState) (receipts : List ReceiptState) : Type 0 where
   pub setting : Setting
@@ -117,15 +119,15 @@ pub record IsServed {D H N L : Type 0} (G : Ghosts D) (S : shelf.Ghosts H) (n : 
   pub tells : Bool
   pub set : IsSetFor S options.shared on setting
   pub from : IsOpenedFrom G old setting opened tells
-  pub over : IsServedOver G n options.conns setting opened tells status new net_old net_new journal receipts
+  pub over : IsServedOver G n k options.conns setting opened tells status new net_old net_new journal receipts
 
 -- either way
-abbrev pub IsServeRun : {D H U N L : Type 0} → Ghosts D → shelf.Ghosts H → listener.Ghosts N L → ServeOptions →
-    Status → (on : H) → (old new : Disks D) → (outlet_old outlet_new : U) → (net_old net_new : N) → JournalState →
+abbrev pub IsServeRun : {D H U N L : Type 0} → Ghosts D → shelf.Ghosts H → listener.Ghosts N L → link.Ghosts L →
+    ServeOptions → Status → (on : H) → (old new : Disks D) → (outlet_old outlet_new : U) → (net_old net_new : N) → JournalState →
     List ReceiptState → Type 0
-IsServeRun G S n options status on old new outlet_old outlet_new net_old net_new journal receipts =
+IsServeRun G S n k options status on old new outlet_old outlet_new net_old net_new journal receipts =
     IsNotOpened G status ((outlet_new ≡ outlet_old) × NothingServed net_old net_new journal receipts) old new
-    ⊎ IsServed G S n options status on old new net_old net_new journal receipts
+    ⊎ IsServed G S n k options status on old new net_old net_new journal receipts
 
 -- all was done, or memory was wanting, or the receipts disagree with the journal
 abbrev pub IsServedWhole : Status → Type 0

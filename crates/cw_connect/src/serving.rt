@@ -51,8 +51,8 @@ where
     C: Clock + Send + Drop,
     G: Gate + Sync,
     requires ranges { IsServedInRange options }
-    ensures runs { IsServeRun D.Disk H.Shelf N.Listener options result.status shelf.old disks result.disks outlet
-        result.outlet net result.net result.journal result.receipts.items }
+    ensures runs { IsServeRun D.Disk H.Shelf N.Listener N.Link.Link options result.status shelf.old disks
+        result.disks outlet result.outlet net result.net result.journal result.receipts.items }
     ensures damaged_only { (disk : DiskName) (at : ℕ) (harm : Harm) → result.status ≡ Damaged disk at harm →
         (files : DiskFiles) → TellAll D.Disk disks files → HasFirstHarm files disk at harm }
     ensures store_fault { (disk : DiskName) (count : ℕ) → result.status ≡ StoreFault disk count →
@@ -129,7 +129,7 @@ where
     requires fresh { (world.state.rows ≡ []) × (world.state.journal ≡ []) }
     requires names { HaveNames world.setting }
     requires sizes { AreServed sizes }
-    ensures over { IsServedOver D.Disk N.Listener sizes.conns world.setting world.state
+    ensures over { IsServedOver D.Disk N.Listener N.Link.Link sizes.conns world.setting world.state
         (tell_all D.Disk world.logs) result.status result.disks net result.net result.journal result.receipts.items }
     ensures store_fault { (disk : DiskName) (count : ℕ) → result.status ≡ StoreFault disk count →
         FailedAt D.count (disks_of world.logs) result.disks disk count }

@@ -89,8 +89,8 @@ where
     C: Clock + Send + Drop,
     G: Gate + Sync,
     // What is due for the command that the words are, why a run ends otherwise, and which counts of faults rose.
-    ensures ended { HasEnded D.Disk I.Source O.Sink H.Shelf U.Outlet N.Listener (map string_bytes words.now) result.status
-        (record {
+    ensures ended { HasEnded D.Disk I.Source O.Sink H.Shelf U.Outlet N.Listener N.Link.Link
+        (map string_bytes words.now) result.status (record {
           disks = disks;
           input = input.old;
           output = output.old;
@@ -200,8 +200,8 @@ where
     N: Listener,
     C: Clock + Send + Drop,
     G: Gate + Sync,
-    ensures { HasEnded D.Disk I.Source O.Sink H.Shelf U.Outlet N.Listener (map string_bytes words.now) result.status
-        (record {
+    ensures { HasEnded D.Disk I.Source O.Sink H.Shelf U.Outlet N.Listener N.Link.Link
+        (map string_bytes words.now) result.status (record {
           disks = disks;
           input = input.old;
           output = output.old;
@@ -259,7 +259,7 @@ where
     G: Gate + Sync,
     requires ranges { IsInRange command }
     ensures { (words : List (List ℕ)) → command_of words ≡ Some command →
-        HasEnded D.Disk I.Source O.Sink H.Shelf U.Outlet N.Listener words result.status
+        HasEnded D.Disk I.Source O.Sink H.Shelf U.Outlet N.Listener N.Link.Link words result.status
         (record {
           disks = disks;
           input = input.old;

@@ -1,21 +1,24 @@
 -- The links that a server accepts are numbered from 0 in the order in which they came. This project's own rule.
-use Rattle.std.specs.Prelude.{◌≡◌, ℕ, zero, suc, ◌+◌, ◌<◌, ◌≤◌, ◌==◌, List, [], ◌∷◌, ◌++◌, if◌then◌else◌}
+use Rattle.std.specs.Prelude.{◌≡◌, ℕ, suc, List, [], ◌∷◌}
+use Rattle.std.specs.List.Sorted.{IsPermutation}
+use mathlib.Core.Option.{some}
+use lib.ListN.{get_elem?}
+use Rattle.cw_line.specs.declared.rule.Ticket.{Ticket}
 
--- the numbers below n, in order
-abbrev pub upto : ℕ → List ℕ
-upto zero = []
-upto (suc n) = upto n ++ n ∷ []
+module _ {L : Type 0} where
+  -- links with their numbers, from n on
+  abbrev pub numbered_from : ℕ → List L → List (Ticket L)
+  numbered_from n [] = []
+  numbered_from n (link ∷ links) = record { number = n; link = link } ∷ numbered_from (suc n) links
 
--- how often a number stands in a list
-abbrev pub times : ℕ → List ℕ → ℕ
-times number [] = 0
-times number (x ∷ xs) = (if x == number then 1 else 0) + times number xs
+  -- and from 0 on
+  abbrev pub numbered : List L → List (Ticket L)
+  numbered links = numbered_from 0 links
 
--- both lists have each number equally often, in whatever order
-abbrev pub HaveTheSame : List ℕ → List ℕ → Type 0
-HaveTheSame xs ys = (number : ℕ) → times number xs ≡ times number ys
+  -- the ticket has the link that stands at its number, as it was then
+  abbrev pub IsNumbered : List L → Ticket L → Type 0
+  IsNumbered links ticket = get_elem? links ticket.number ≡ some ticket.link
 
--- of the links that were pushed each was taken once, and no other was
-pub record IsEachOnce (pushed : ℕ) (taken : List ℕ) : Type 0 where
-  pub once : (number : ℕ) → number < pushed → times number taken ≡ 1
-  pub no_other : (number : ℕ) → pushed ≤ number → times number taken ≡ 0
+  -- of the links that were pushed each was taken once, as it was then, and no other was
+  abbrev pub IsEachOnce : List L → List (Ticket L) → Type 0
+  IsEachOnce pushed taken = IsPermutation taken (numbered pushed)

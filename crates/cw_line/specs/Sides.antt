@@ -1,13 +1,13 @@
 -- What the two sides of a line know: the thread that accepts links and pushes them, and the handlers, which take them.
 -- This project's own rule.
-use Rattle.std.specs.Prelude.{◌≡◌, ℕ, ◌+◌, ◌-◌, true, false, List, [], ◌∷◌, ◌++◌, length, Option}
+use Rattle.std.specs.Prelude.{◌≡◌, ℕ, ◌+◌, ◌-◌, true, false, List, [], ◌∷◌, ◌++◌, map, Option}
 use Rattle.atomic_table.specs.Seated.{TableId}
 use Rattle.crossbeam_queue.specs.declared.array_queue.Doing.{Doing}
 use Rattle.crossbeam_queue.specs.declared.array_queue.Slotted.{Slotted}
 use Rattle.crossbeam_queue.specs.Passes.{Pass}
 use Rattle.cw_line.specs.declared.rule.Hand.{Hand}
 use Rattle.cw_line.specs.declared.rule.Ticket.{Ticket}
-use Rattle.cw_line.specs.Numbers.{upto}
+use Rattle.cw_line.specs.Numbers.{numbered}
 use Rattle.cw_line.specs.Hands.{hand, told}
 
 -- the name of no line
@@ -19,46 +19,47 @@ module _ {T V Q A : Type 0} where
   abbrev pub name_of : Slotted (Option T) (Doing T V) Q A → TableId
   name_of line = line.table.shared.table_id
 
--- a pass of the line of this name, which is in no call
-abbrev pub IsOf : {L : Type 0} → TableId → Pass (Ticket L) Hand → Type 0
-IsOf table pass = (pass.table_id ≡ table) × (pass.me.1 ≡ [])
-
--- the accepting side: how many of the 1024 parts it has, how many links it pushed, which it took and took over
-pub record Accepting : Type 0 where
+-- the accepting side: how many of the 1024 parts it has, the links that it pushed, which it took and took over
+pub record Accepting (L : Type 0) : Type 0 where
   pub parts : ℕ
-  pub pushed : ℕ
-  pub taken : List ℕ
+  pub pushed : List L
+  pub taken : List (Ticket L)
 
--- the first pass of the line of this name: it has every part, may push, and has pushed and taken nothing
-abbrev pub IsFirstOf : {L : Type 0} → TableId → Pass (Ticket L) Hand → Type 0
-IsFirstOf table pass = IsOf table pass × (told pass ≡ hand 1024 true [] [])
+module _ {L : Type 0} where
+  -- a pass of the line of this name, which is in no call
+  abbrev pub IsOf : TableId → Pass (Ticket L) (Hand L) → Type 0
+  IsOf table pass = (pass.table_id ≡ table) × (pass.me.1 ≡ [])
 
--- before the first link, with every part
-abbrev pub beginning : Accepting
-beginning = record { parts = 1024; pushed = 0; taken = [] }
+  -- the first pass of the line of this name: it has every part, may push, and has pushed and taken nothing
+  abbrev pub IsFirstOf : TableId → Pass (Ticket L) (Hand L) → Type 0
+  IsFirstOf table pass = IsOf table pass × (told pass ≡ hand 1024 true [] [])
 
--- one more link was pushed
-abbrev pub with_pushed : ℕ → Accepting → Accepting
-with_pushed count a = record { parts = a.parts; pushed = a.pushed + count; taken = a.taken }
+  -- before the first link, with every part
+  abbrev pub beginning : Accepting L
+  beginning = record { parts = 1024; pushed = []; taken = [] }
 
--- one more link was taken
-abbrev pub with_taken : ℕ → Accepting → Accepting
-with_taken number a = record { parts = a.parts; pushed = a.pushed; taken = a.taken ++ number ∷ [] }
+  -- links more were pushed
+  abbrev pub with_pushed : List L → Accepting L → Accepting L
+  with_pushed links a = record { parts = a.parts; pushed = a.pushed ++ links; taken = a.taken }
 
--- a handler's part was split off
-abbrev pub without_part : Accepting → Accepting
-without_part a = record { parts = a.parts - 1; pushed = a.pushed; taken = a.taken }
+  -- one more link was taken
+  abbrev pub with_taken : Ticket L → Accepting L → Accepting L
+  with_taken ticket a = record { parts = a.parts; pushed = a.pushed; taken = a.taken ++ ticket ∷ [] }
 
--- a handler's part came back, with what the handler took
-abbrev pub with_part : List ℕ → Accepting → Accepting
-with_part numbers a = record { parts = a.parts + 1; pushed = a.pushed; taken = a.taken ++ numbers }
+  -- a handler's part was split off
+  abbrev pub without_part : Accepting L → Accepting L
+  without_part a = record { parts = a.parts - 1; pushed = a.pushed; taken = a.taken }
 
--- the hands of the two sides
-abbrev pub accepting_of : Hand → Accepting
-accepting_of v = record { parts = v.parts; pushed = length v.put; taken = v.taken }
+  -- a handler's part came back, with what the handler took
+  abbrev pub with_part : List (Ticket L) → Accepting L → Accepting L
+  with_part tickets a = record { parts = a.parts + 1; pushed = a.pushed; taken = a.taken ++ tickets }
 
-abbrev pub acceptors_hand : Accepting → Hand
-acceptors_hand a = hand a.parts true (upto a.pushed) a.taken
+  -- the hands of the two sides
+  abbrev pub accepting_of : Hand L → Accepting L
+  accepting_of v = record { parts = v.parts; pushed = map (λ ticket. ticket.link) v.put; taken = v.taken }
 
-abbrev pub takers_hand : List ℕ → Hand
-takers_hand taken = hand 1 false [] taken
+  abbrev pub acceptors_hand : Accepting L → Hand L
+  acceptors_hand a = hand a.parts true (numbered a.pushed) a.taken
+
+  abbrev pub takers_hand : List (Ticket L) → Hand L
+  takers_hand taken = hand 1 false [] taken

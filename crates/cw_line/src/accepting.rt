@@ -1,5 +1,5 @@
 //! The thread that accepts.
-ghost use Rattle.std.specs.Prelude.{◌≡◌, ◌+◌, ◌≤◌, ◌⊎◌, true, false};
+ghost use Rattle.std.specs.Prelude.{◌≡◌, ◌++◌, ◌≤◌, ◌⊎◌, [], length, true, false};
 ghost use Rattle.cw_types.specs.Faults.{Rose};
 ghost use Rattle.cw_line.specs.Sides.{name_of, with_pushed};
 
@@ -26,9 +26,10 @@ pub fn accept_links<J: Seat, N: Listener, R: Wait>(
     most: u32,
 ) -> Accepted
     requires seat { name_of line.now ≡ J.table }
-    requires fresh { acceptor.old.pushed ≡ 0 }
-    ensures given { N.given net.new ≡ N.given net.old + result.pushed }
-    ensures pushed { acceptor.new ≡ with_pushed result.pushed acceptor.old }
+    requires fresh { acceptor.old.pushed ≡ [] }
+    ensures given { N.given net.new ≡ N.given net.old ++ acceptor.new.pushed }
+    ensures pushed { acceptor.new ≡ with_pushed acceptor.new.pushed acceptor.old }
+    ensures count { length acceptor.new.pushed ≡ result.pushed }
     ensures most { result.pushed ≤ most }
     ensures done { result.failed ≡ false → (result.pushed ≡ most) ⊎ (N.ended net.new ≡ true) }
     ensures failed { result.failed ≡ true → Rose (N.faults net.old) (N.faults net.new) }

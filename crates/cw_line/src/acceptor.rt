@@ -1,7 +1,7 @@
 //! The accepting side of a line.
-ghost use Rattle.std.specs.Prelude.{◌≡◌, ◌<◌, [], ◌∷◌, ◌++◌, true, IfSome, IfNone};
+ghost use Rattle.std.specs.Prelude.{◌≡◌, ◌<◌, [], ◌∷◌, ◌++◌, length, true, IfSome, IfNone};
 ghost use Rattle.crossbeam_queue.specs.Passes.{view, IsPassOf};
-ghost use Rattle.cw_line.specs.Numbers.{IsEachOnce};
+ghost use Rattle.cw_line.specs.Numbers.{IsEachOnce, IsNumbered};
 ghost use Rattle.cw_line.specs.Hands.{hand};
 ghost use Rattle.cw_line.specs.Sides.{IsFirstOf, name_of, beginning, with_pushed, with_taken, without_part, with_part};
 
@@ -13,12 +13,12 @@ use std::marker::{Model, PhantomData};
 use std::sync::Wait;
 use std::thread;
 
-/// The pass of the thread that accepts: it alone pushes. Contracts see how many parts it has, how many links it pushed,
-/// and the numbers of those that it took, by itself or by a handler that came back. With all 1024 parts it knows which
-/// links wait.
+/// The pass of the thread that accepts: it alone pushes. Contracts see how many parts it has, the links that it pushed,
+/// and those that it took, by itself or by a handler that came back, with their numbers. With all 1024 parts it knows
+/// which links wait.
 #[derive(Drop)]
 pub struct Acceptor<J: Seat, L> {
-    pass: Pass<Ticket<L>, Hand>,
+    pass: Pass<Ticket<L>, Hand<L>>,
     of: PhantomData<J>,
 }
 
@@ -27,7 +27,7 @@ impl<J: Seat, L> Model for Acceptor<J, L> {
     ghost use Rattle.cw_line.specs.Hands.{told};
     ghost use Rattle.cw_line.specs.Sides.{Accepting, IsOf, accepting_of, acceptors_hand};
 
-    ghost Value = { Accepting };
+    ghost Value = { Accepting L };
 
     ghost view = { λ a. accepting_of (told a.pass) };
 
@@ -36,7 +36,7 @@ impl<J: Seat, L> Model for Acceptor<J, L> {
 
 impl<J: Seat, L> Acceptor<J, L> {
     /// The accepting side of a line that was just opened.
-    pub fn new(pass: Pass<Ticket<L>, Hand>) -> Acceptor<J, L>
+    pub fn new(pass: Pass<Ticket<L>, Hand<L>>) -> Acceptor<J, L>
         requires { IsFirstOf J.table pass }
         ensures { result ≡ beginning }
     {
@@ -70,8 +70,8 @@ impl<J: Seat, L> Acceptor<J, L> {
     pub fn take_left<R: Wait>(&mut self, rt: &R, line: &Line<L>) -> Option<Ticket<L>>
         requires seat { name_of line.now ≡ J.table }
         requires whole { self.old.parts ≡ 1024 }
-        ensures taken { IfSome result (λ ticket. self.new ≡ with_taken ticket.number self.old) }
-        ensures pushed { IfSome result (λ ticket. ticket.number < self.old.pushed) }
+        ensures taken { IfSome result (λ ticket. self.new ≡ with_taken ticket self.old) }
+        ensures pushed { IfSome result (λ ticket. IsNumbered self.old.pushed ticket) }
         ensures none { IfNone result (self.new ≡ self.old) }
         ensures each_once { IfNone result (IsEachOnce self.new.pushed self.new.taken) }
     {
@@ -87,8 +87,8 @@ impl<J: Seat, L> Acceptor<J, L> {
     // Pushes the next link.
     pub(crate) fn push<R: Wait>(&mut self, rt: &R, line: &Line<L>, ticket: Ticket<L>)
         requires seat { name_of line.now ≡ J.table }
-        requires next { ticket.number ≡ self.old.pushed }
-        ensures { self.new ≡ with_pushed 1 self.old }
+        requires next { ticket.number ≡ length self.old.pushed }
+        ensures { self.new ≡ with_pushed (ticket.link ∷ []) self.old }
     {
         push_with(rt, line, &mut self.pass, ticket);
     }
@@ -98,14 +98,14 @@ impl<J: Seat, L> Acceptor<J, L> {
 fn push_with<L, R: Wait>(
     rt: &R,
     line: &Line<L>,
-    pass: &mut Pass<Ticket<L>, Hand>,
+    pass: &mut Pass<Ticket<L>, Hand<L>>,
     ticket: Ticket<L>,
 )
     requires line { IsPassOf line.now pass.old }
     requires pushes { (view pass.old).pushes ≡ true }
     ensures line { IsPassOf line.now pass.new }
     ensures put { let v = view pass.old in
-        view pass.new ≡ hand v.parts true (v.put ++ ticket.number ∷ []) v.taken }
+        view pass.new ≡ hand v.parts true (v.put ++ ticket ∷ []) v.taken }
 {
     let mut ticket = ticket;
     for _ in rt.forever() {

@@ -11,7 +11,7 @@ use std::alloc::{AllocError, Global};
 #[derive(Drop)]
 pub struct Opened<L> {
     pub line: Line<L>,
-    pub pass: Pass<Ticket<L>, Hand>,
+    pub pass: Pass<Ticket<L>, Hand<L>>,
 }
 
 /// Opens a line with room for so many links. Its only error is want of memory.

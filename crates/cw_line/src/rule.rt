@@ -1,4 +1,5 @@
-//! The rule of a line: the numbers taken, followed by those that wait, are the numbers pushed, in order.
+//! The rule of a line: the links taken, followed by those that wait, are the links pushed, in order, each under its
+//! number and as it was when it was pushed.
 use crossbeam_queue::RuledArrayQueue;
 use crossbeam_queue::protocol::{Join, Lesson, Outcome, Protocol, Split};
 use std::collections::LinkedList;
@@ -10,26 +11,26 @@ pub struct Ticket<L> {
     pub link: L,
 }
 
-/// What a pass of a line knows: its parts of the right to know the whole, whether it may push, and the numbers that it
+/// What a pass of a line knows: its parts of the right to know the whole, whether it may push, and the links that it
 /// pushed and took. It is what clauses speak of, and no value of it is made.
-pub struct Hand {
+pub struct Hand<L> {
     pub parts: u64,
     pub pushes: bool,
-    pub put: LinkedList<u64>,
-    pub taken: LinkedList<u64>,
+    pub put: LinkedList<Ticket<L>>,
+    pub taken: LinkedList<Ticket<L>>,
 }
 
 /// The links of which those taken, followed by those that wait, are those pushed. Any number of threads share it.
-pub type Line<L> = RuledArrayQueue<Ticket<L>, Hand, InOrder>;
+pub type Line<L> = RuledArrayQueue<Ticket<L>, Hand<L>, InOrder>;
 
-/// The rule that the numbers taken, followed by those that wait, are those pushed, in order.
+/// The rule that the links taken, followed by those that wait, are those pushed, in order.
 pub struct InOrder;
 
-impl<L> Protocol<Ticket<L>, Hand> for InOrder {
+impl<L> Protocol<Ticket<L>, Hand<L>> for InOrder {
     ghost use Rattle.std.specs.Prelude.{true, []};
-    ghost use Rattle.cw_line.specs.Hands.{hand, Handed, numbers};
+    ghost use Rattle.cw_line.specs.Hands.{hand, Handed};
 
-    ghost holds = { λ tickets views. Handed (numbers tickets) views };
+    ghost holds = { λ tickets views. Handed tickets views };
 
     ghost first = { hand 1024 true [] [] };
 }
@@ -37,7 +38,7 @@ impl<L> Protocol<Ticket<L>, Hand> for InOrder {
 /// One part leaves for a handler, or comes back with what the handler took.
 pub(crate) struct Part;
 
-impl Split<Hand> for Part {
+impl<L> Split<Hand<L>> for Part {
     ghost use Rattle.std.specs.Prelude.{◌-◌, false, []};
     ghost use Rattle.cw_line.specs.Hands.{hand};
 
@@ -46,7 +47,7 @@ impl Split<Hand> for Part {
     ghost right = { λ v. hand 1 false [] [] };
 }
 
-impl Join<Hand> for Part {
+impl<L> Join<Hand<L>> for Part {
     ghost use Rattle.std.specs.Prelude.{◌+◌, ◌++◌, false, []};
     ghost use Rattle.cw_line.specs.Hands.{hand};
 
@@ -58,26 +59,26 @@ impl Join<Hand> for Part {
 /// A link is pushed.
 pub(crate) struct Puts;
 
-impl<L> Outcome<Ticket<L>, Hand> for Puts {
+impl<L> Outcome<Ticket<L>, Hand<L>> for Puts {
     ghost use Rattle.std.specs.Prelude.{◌≡◌, ◌++◌, ◌∷◌, []};
     ghost use Rattle.cw_line.specs.Hands.{hand};
 
-    ghost then = { λ v ticket w. w ≡ hand v.parts v.pushes (v.put ++ ticket.number ∷ []) v.taken };
+    ghost then = { λ v ticket w. w ≡ hand v.parts v.pushes (v.put ++ ticket ∷ []) v.taken };
 }
 
 /// A link is taken.
 pub(crate) struct Takes;
 
-impl<L> Outcome<Ticket<L>, Hand> for Takes {
+impl<L> Outcome<Ticket<L>, Hand<L>> for Takes {
     ghost use Rattle.std.specs.Prelude.{◌≡◌, ◌++◌, ◌∷◌, []};
     ghost use Rattle.cw_line.specs.Hands.{hand};
 
-    ghost then = { λ v ticket w. w ≡ hand v.parts v.pushes v.put (v.taken ++ ticket.number ∷ []) };
+    ghost then = { λ v ticket w. w ≡ hand v.parts v.pushes v.put (v.taken ++ ticket ∷ []) };
 }
 
 /// What only the pass with every part may know: which links wait.
-impl<L> Lesson<Ticket<L>, Hand> for Takes {
-    ghost use Rattle.cw_line.specs.Hands.{IsWhole, Accounts, numbers};
+impl<L> Lesson<Ticket<L>, Hand<L>> for Takes {
+    ghost use Rattle.cw_line.specs.Hands.{IsWhole, Accounts};
 
-    ghost fact = { λ v tickets. IsWhole v → Accounts v.put v.taken (numbers tickets) };
+    ghost fact = { λ v tickets. IsWhole v → Accounts v.put v.taken tickets };
 }

@@ -133,7 +133,7 @@ fn serve_left<J: Seat, R: Wait>(
 fn serve_named<J: Seat + Send + Sync, R: Threads + Wait + Sync>(
     rt: &R,
     line: &Line<MemLink>,
-    pass: Pass<Ticket<MemLink>, Hand>,
+    pass: Pass<Ticket<MemLink>, Hand<MemLink>>,
     tally: &Tally,
     net: MemListener<MemLink>,
 ) -> Accepted

@@ -2,10 +2,10 @@
 use Rattle.std.specs.Prelude.{ℕ, ◌+◌, ◌-◌, ◌^◌, min, List, Bool}
 use Rattle.cw_io.specs.Calls.{Calls}
 
--- the links that are left, how many were given, whether it was said that there are no more, and the calls
+-- the links that are left, those that were given, whether it was said that there are no more, and the calls
 pub record ListenerState (L : Type 0) : Type 0 where
   pub left : List L
-  pub given : ℕ
+  pub given : List L
   pub ended : Bool
   pub calls : Calls
 

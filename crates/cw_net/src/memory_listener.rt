@@ -1,5 +1,5 @@
 //! A listener in memory.
-ghost use Rattle.std.specs.Prelude.{◌≡◌, ◌+◌, ◌≤◌, ◌++◌, ◌||◌, [], false, Ok, None, IfOk, OnErr, is_err};
+ghost use Rattle.std.specs.Prelude.{◌≡◌, ◌≤◌, ◌++◌, ◌||◌, [], false, Ok, None, IfOk, OnErr, is_err};
 ghost use Rattle.std.specs.Option.{option_to_list};
 ghost use Rattle.cw_types.specs.Faults.{Rose};
 ghost use Rattle.cw_io.specs.Calls.{no_calls, is_listed, after_call};
@@ -8,6 +8,7 @@ ghost use Rattle.cw_net.specs.Accepting.{links_in, is_end};
 use crate::call_plan::CallPlan;
 use crate::listener::Listener;
 use cw_io::{Failed, Link};
+use cw_types::Past;
 use std::collections::VecDeque;
 use std::marker::Model;
 
@@ -16,33 +17,30 @@ use std::marker::Model;
 #[derive(Drop)]
 pub struct MemListener<L: Link + Send + Drop> {
     links: VecDeque<L>,
-    given: u64,
+    given: Past<L>,
     ended: bool,
     calls: CallPlan,
 }
 
 impl<L: Link + Send + Drop> Model for MemListener<L> {
-    ghost use Rattle.std.specs.Prelude.{◌+◌, ◌<◌, ◌^◌, length};
     ghost use Rattle.cw_net.specs.Memory.{ListenerState};
 
     ghost Value = { ListenerState L };
 
-    ghost view = { λ l. record { left = l.links.items; given = l.given; ended = l.ended; calls = l.calls } };
-
-    ghost invariant = { λ l. l.given + length l.links.items < 2 ^ 64 };
+    ghost view = { λ l. record { left = l.links.items; given = l.given.items; ended = l.ended; calls = l.calls } };
 }
 
 impl<L: Link + Send + Drop> MemListener<L> {
     /// A listener of these links. The calls fail whose numbers are in `failing`, counted from 0.
     pub fn new(links: VecDeque<L>, failing: Vec<u64>) -> MemListener<L>
         ensures left { result.left ≡ links.items }
-        ensures given { result.given ≡ 0 }
+        ensures given { result.given ≡ [] }
         ensures ended { result.ended ≡ false }
         ensures calls { result.calls ≡ no_calls failing.items }
     {
         MemListener {
             links,
-            given: 0,
+            given: Past::new(),
             ended: false,
             calls: CallPlan::new(failing),
         }
@@ -64,7 +62,7 @@ impl<L: Link + Send + Drop> Listener for MemListener<L> {
         ensures kept { OnErr result (self.new.left ≡ self.old.left) }
         ensures listed { is_err result ≡ is_listed self.old.calls }
         ensures calls { self.new.calls ≡ after_call (is_err result) self.old.calls }
-        ensures given { self.new.given ≡ self.old.given + links_in result }
+        ensures given { self.new.given ≡ self.old.given ++ links_in result }
         ensures ended { self.new.ended ≡ self.old.ended || is_end result }
         ensures later { self.old.calls.faults ≤ self.new.calls.faults }
         ensures rose { OnErr result (Rose self.old.calls.faults self.new.calls.faults) }
@@ -74,7 +72,7 @@ impl<L: Link + Send + Drop> Listener for MemListener<L> {
         }
         match self.links.pop_front() {
             Some(link) => {
-                self.given += 1;
+                self.given = self.given.and(&link);
                 Ok(Some(link))
             }
             None => {

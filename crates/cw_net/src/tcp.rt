@@ -1,38 +1,36 @@
 //! THE TRUSTED EDGE: a listener that is a TCP port of the system. No clause can say who connects; what is proved is
 //! that it counts its links and its faults.
-ghost use Rattle.std.specs.Prelude.{◌≡◌, false};
+ghost use Rattle.std.specs.Prelude.{◌≡◌, [], false};
 
 use crate::listener::Listener;
 use cw_io::{Failed, TcpLink};
+use cw_types::Past;
 use std::io;
 use std::net::{Net, TcpListener, TcpStream};
 
 // Where the REST API of a Kafka Connect worker listens by default, on this machine alone.
 const ADDRESS: &str = "127.0.0.1:8083";
 
-/// A listener on port 8083 of this machine's own address, from its first call on. A listener that has given 2^64 - 1
-/// links gives no more.
+/// A listener on port 8083 of this machine's own address, from its first call on. It never ends.
 #[derive(Drop)]
 pub struct PortListener<'r, R: Net<Listener = TcpListener, Stream = TcpStream>> {
     system: &'r R,
     listener: Option<TcpListener>,
-    given: u64,
-    ended: bool,
+    given: Past<TcpLink>,
     faults: u64,
 }
 
 impl<'r, R: Net<Listener = TcpListener, Stream = TcpStream>> PortListener<'r, R> {
     /// A listener that has given no link yet. It doesn't listen before its first call.
     pub fn new(system: &'r R) -> PortListener<'r, R>
-        ensures given { ⟦<PortListener<'r, R> as Listener>⟧.given result ≡ 0 }
+        ensures given { ⟦<PortListener<'r, R> as Listener>⟧.given result ≡ [] }
         ensures ended { ⟦<PortListener<'r, R> as Listener>⟧.ended result ≡ false }
         ensures faults { ⟦<PortListener<'r, R> as Listener>⟧.faults result ≡ 0 }
     {
         PortListener {
             system,
             listener: None,
-            given: 0,
-            ended: false,
+            given: Past::new(),
             faults: 0,
         }
     }
@@ -41,21 +39,18 @@ impl<'r, R: Net<Listener = TcpListener, Stream = TcpStream>> PortListener<'r, R>
 impl<R: Net<Listener = TcpListener, Stream = TcpStream>> Listener for PortListener<'_, R> {
     type Link = TcpLink;
 
-    ghost given = { λ l. l.given };
+    ghost given = { λ l. l.given.items };
 
-    ghost ended = { λ l. l.ended };
+    ghost ended = { λ _. false };
 
     ghost faults = { λ l. l.faults };
 
     fn accept(&mut self) -> Result<Option<TcpLink>, Failed> {
-        if self.given == u64::MAX {
-            self.ended = true;
-            return Ok(None);
-        }
         match next_stream(self.system, &mut self.listener) {
             Ok(stream) => {
-                self.given += 1;
-                Ok(Some(TcpLink::new(stream)))
+                let link = TcpLink::new(stream);
+                self.given = self.given.and(&link);
+                Ok(Some(link))
             }
             Err(_) => {
                 self.faults = self.faults.saturating_add(1);

@@ -1,5 +1,5 @@
 -- Counts of faults that rose.
-use Rattle.std.proofs.Common.{◌≡◌, ℕ, ◌≤◌, arith}
+use Rattle.std.proofs.Common.{ℕ, ◌≤◌, arith}
 use Rattle.cw_types.specs.Faults.{Rose}
 
 -- a count that rose since a later moment rose since an earlier one

@@ -1,5 +1,5 @@
 -- What a turn keeps of what is known of the world under the lock.
-use Rattle.std.proofs.Common.{◌≡◌, ◌≤◌, ◌+◌, ℕ, List, [], ◌∷◌, ◌++◌, length, true, ap, ◌∙◌, subst, sym, arith}
+use Rattle.std.proofs.Common.{◌≡◌, ◌≤◌, ◌+◌, ℕ, List, [], ◌∷◌, ◌++◌, length, ap, ◌∙◌, subst, sym}
 use Rattle.std.specs.Prelude.{All}
 use Rattle.std.proofs.lemmas.List.{length-append}
 use Rattle.std.proofs.lemmas.List.Elements.{All-push}
@@ -7,7 +7,6 @@ use Rattle.logbook.specs.Pages.{Book}
 use Rattle.cw_disk.specs.declared.device.Disk.{Ghosts}
 use Rattle.cw_desk.specs.Keeping.{KeepsJournal}
 use Rattle.cw_model.specs.declared.journal.JournalEntry.{JournalEntry}
-use Rattle.cw_model.specs.State.{Cluster}
 use Rattle.cw_model.specs.Lookups.{row_of}
 use Rattle.cw_world.specs.Receipts.{ReceiptState}
 use Rattle.cw_world.specs.World.{WorldState}

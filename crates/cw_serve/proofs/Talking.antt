@@ -1,5 +1,5 @@
 -- Connections over links, one more and two lists of them together; and the receipts that they left, in whatever order.
-use Rattle.std.proofs.Common.{◌≡◌, ℕ, ◌+◌, List, [], ◌∷◌, ◌++◌, Option, Result, Ok, Err, IfOk, length, refl, sym, ap, ◌∙◌, append_assoc, subst, arith}
+use Rattle.std.proofs.Common.{◌≡◌, ℕ, List, [], ◌∷◌, ◌++◌, Option, Result, Ok, Err, IfOk, length, refl, sym, ap, ◌∙◌, append_assoc, subst, arith}
 use Rattle.std.specs.List.{AllByRecursion, flat_map}
 use Rattle.std.specs.List.Sorted.{IsPermutation}
 use Rattle.std.proofs.lemmas.Grind.{flat_map-append}
@@ -8,6 +8,8 @@ use Rattle.std.proofs.lemmas.List.Sorted.{IsPermutation-append_comm, IsPermutati
 use Rattle.cw_conn.specs.Exchanges.{entries_of}
 use Rattle.cw_conn.specs.Talked.{moment, Talked}
 use Rattle.cw_conn.specs.declared.ends.ConnEnd.{ConnEnd}
+use Rattle.cw_io.specs.declared.link.Link as link
+use Rattle.cw_line.specs.declared.rule.Ticket.{Ticket}
 use Rattle.cw_line.specs.Numbers.{IsEachOnce}
 use Rattle.cw_model.specs.declared.journal.JournalEntry.{JournalEntry}
 use Rattle.cw_net.specs.declared.listener.Listener as listener
@@ -17,23 +19,19 @@ use Rattle.cw_serve.specs.Talking.{AreTalks, HaveTalked, IsTalk, Serves, Talk, e
 -- ---- one connection
 
 -- what a desk answered behind other entries, it answered
-pub served : (number : ℕ) (end : ConnEnd) (left held left_now held_now : Option (List ℕ)) (before behind : List JournalEntry)
-    → Talked 0 end (moment left held before) (moment left_now held_now behind) → Serves number left held before behind
-served number end left held left_now held_now before behind talked = record {
-  talk = record { number = number; end = end; before = moment left held []; behind = moment left_now held_now (entries_of talked.exchanges) };
+pub served : {L : Type 0} (I : link.Ghosts L) (ticket : Ticket L) (end : ConnEnd) (left_now held_now : Option (List ℕ)) (before behind : List JournalEntry)
+    → Talked 0 end (moment (I.left ticket.link) (I.held ticket.link) before) (moment left_now held_now behind) → Serves I ticket before behind
+served I ticket end left_now held_now before behind talked = record {
+  talk = record { ticket = ticket; end = end; behind = moment left_now held_now (entries_of talked.exchanges) };
   is = record {
-    no_entry = refl;
-    talked = record {
-      exchanges = talked.exchanges;
-      unanswered = talked.unanswered;
-      read = talked.read;
-      calls = talked.calls;
-      grew = refl;
-      ends = talked.ends;
-    };
+    exchanges = talked.exchanges;
+    unanswered = talked.unanswered;
+    read = talked.read;
+    calls = talked.calls;
+    grew = refl;
+    ends = talked.ends;
   };
-  number_is = refl;
-  begins = refl;
+  ticket_is = refl;
   grew = talked.grew;
 }
 
@@ -44,30 +42,31 @@ all_of_both : {X : Type 0} (P : X → Type 0) (xs ys : List X) → AllByRecursio
 all_of_both P [] ys all also = also
 all_of_both P (x ∷ xs) ys all also = (all.0, all_of_both P xs ys all.1 also)
 
--- over no link
-pub no_talks : AreTalks [] []
-no_talks = record { talks = []; each = tt; numbers_are = refl; entries_are = refl }
+module _ {L : Type 0} (I : link.Ghosts L) where
+  -- over no link
+  pub no_talks : AreTalks I [] []
+  no_talks = record { talks = []; each = tt; tickets_are = refl; entries_are = refl }
 
-pub both_talk : (numbers others : List ℕ) (entries more : List JournalEntry) → AreTalks numbers entries → AreTalks others more → AreTalks (numbers ++ others) (entries ++ more)
-both_talk numbers others entries more first then = record {
-  talks = first.talks ++ then.talks;
-  each = all_of_both IsTalk first.talks then.talks first.each then.each;
-  numbers_are = map-append (λ (t : Talk). t.number) first.talks then.talks ∙ (λ i. first.numbers_are i ++ then.numbers_are i);
-  entries_are = flat_map-append (λ (t : Talk). t.behind.entries) first.talks then.talks ∙ (λ i. first.entries_are i ++ then.entries_are i);
-}
+  pub both_talk : (tickets others : List (Ticket L)) (entries more : List JournalEntry) → AreTalks I tickets entries → AreTalks I others more → AreTalks I (tickets ++ others) (entries ++ more)
+  both_talk tickets others entries more first then = record {
+    talks = first.talks ++ then.talks;
+    each = all_of_both (IsTalk I) first.talks then.talks first.each then.each;
+    tickets_are = map-append (λ (t : Talk L). t.ticket) first.talks then.talks ∙ (λ i. first.tickets_are i ++ then.tickets_are i);
+    entries_are = flat_map-append (λ (t : Talk L). t.behind.entries) first.talks then.talks ∙ (λ i. first.entries_are i ++ then.entries_are i);
+  }
 
--- one more, whose entries come behind those before and others
-pub one_more : (numbers now : List ℕ) (number : ℕ) (left held : Option (List ℕ)) (others before behind : List JournalEntry) → now ≡ numbers ++ number ∷ [] → AreTalks numbers (others ++ before) → Serves number left held before behind
-    → AreTalks now (others ++ behind)
-one_more numbers now number left held others before behind taken talks serves =
-    let entries = serves.talk.behind.entries in
-    let one : AreTalks (number ∷ []) entries = record { talks = serves.talk ∷ []; each = (serves.is, tt); numbers_are = ap (λ n. n ∷ []) serves.number_is; entries_are = append-nil entries } in
-    let grew = append_assoc others before entries ∙ ap (λ es. others ++ es) (sym serves.grew) in
-    subst (λ (x : List ℕ × List JournalEntry). AreTalks x.0 x.1) (λ i. (sym taken i, grew i)) (both_talk numbers (number ∷ []) (others ++ before) entries talks one)
+  -- one more, whose entries come behind those before and others
+  pub one_more : (tickets now : List (Ticket L)) (ticket : Ticket L) (others before behind : List JournalEntry) → now ≡ tickets ++ ticket ∷ [] → AreTalks I tickets (others ++ before) → Serves I ticket before behind
+      → AreTalks I now (others ++ behind)
+  one_more tickets now ticket others before behind taken talks serves =
+      let entries = serves.talk.behind.entries in
+      let one : AreTalks I (ticket ∷ []) entries = record { talks = serves.talk ∷ []; each = (serves.is, tt); tickets_are = ap (λ t. t ∷ []) serves.ticket_is; entries_are = append-nil entries } in
+      let grew = append_assoc others before entries ∙ ap (λ es. others ++ es) (sym serves.grew) in
+      subst (λ (x : List (Ticket L) × List JournalEntry). AreTalks I x.0 x.1) (λ i. (sym taken i, grew i)) (both_talk tickets (ticket ∷ []) (others ++ before) entries talks one)
 
--- receipts of no call add nothing
-pub beside_none : (numbers : List ℕ) (entries : List JournalEntry) (receipts : List ReceiptState) → receipts ≡ [] → AreTalks numbers entries → AreTalks numbers (entries ++ entries_in receipts)
-beside_none numbers entries receipts none talks = subst (AreTalks numbers) (sym (append-nil entries) ∙ ap (λ l. entries ++ entries_in l) (sym none)) talks
+  -- receipts of no call add nothing
+  pub beside_none : (tickets : List (Ticket L)) (entries : List JournalEntry) (receipts : List ReceiptState) → receipts ≡ [] → AreTalks I tickets entries → AreTalks I tickets (entries ++ entries_in receipts)
+  beside_none tickets entries receipts none talks = subst (AreTalks I tickets) (sym (append-nil entries) ∙ ap (λ l. entries ++ entries_in l) (sym none)) talks
 
 -- ---- what was kept in several lists
 
@@ -80,22 +79,23 @@ module _ {X : Type 0} (f : X → List ReceiptState) where
   kept_behind : (xs : List X) (x : X) → flat_map f (xs ++ x ∷ []) ≡ flat_map f xs ++ f x
   kept_behind xs x = sym (flat_map_more f [] xs x)
 
-  -- before any link was taken and anything kept
-  pub no_talks_yet : (numbers : List ℕ) (xs : List X) → numbers ≡ [] → length xs ≡ 0 → AreTalks numbers (entries_in (flat_map f xs))
-  no_talks_yet numbers xs none nothing =
-      subst (λ (x : List ℕ × List X). AreTalks x.0 (entries_in (flat_map f x.1))) (λ i. (sym none i, sym (empty xs nothing) i)) no_talks
+  module _ {L : Type 0} (I : link.Ghosts L) where
+    -- before any link was taken and anything kept
+    pub no_talks_yet : (tickets : List (Ticket L)) (xs : List X) → tickets ≡ [] → length xs ≡ 0 → AreTalks I tickets (entries_in (flat_map f xs))
+    no_talks_yet tickets xs none nothing =
+        subst (λ (x : List (Ticket L) × List X). AreTalks I x.0 (entries_in (flat_map f x.1))) (λ i. (sym none i, sym (empty xs nothing) i)) (no_talks I)
 
-  -- the last list's entries are those of its receipts
-  pub kept_last : (numbers : List ℕ) (xs ys : List X) (x : X) → ys ≡ xs ++ x ∷ [] → AreTalks numbers (entries_in (flat_map f xs) ++ entries_in (f x)) → AreTalks numbers (entries_in (flat_map f ys))
-  kept_last numbers xs ys x is talks =
-      let all = ap (flat_map f) is ∙ kept_behind xs x in
-      subst (AreTalks numbers) (sym (ap entries_in all ∙ map-append (λ (r : ReceiptState). r.entry) (flat_map f xs) (f x))) talks
+    -- the last list's entries are those of its receipts
+    pub kept_last : (tickets : List (Ticket L)) (xs ys : List X) (x : X) → ys ≡ xs ++ x ∷ [] → AreTalks I tickets (entries_in (flat_map f xs) ++ entries_in (f x)) → AreTalks I tickets (entries_in (flat_map f ys))
+    kept_last tickets xs ys x is talks =
+        let all = ap (flat_map f) is ∙ kept_behind xs x in
+        subst (AreTalks I tickets) (sym (ap entries_in all ∙ map-append (λ (r : ReceiptState). r.entry) (flat_map f xs) (f x))) talks
 
-  -- a handler's connections come behind those that are known
-  pub absorbed : (numbers others now : List ℕ) (xs ys : List X) (x : X) → now ≡ numbers ++ others → ys ≡ xs ++ x ∷ [] → AreTalks numbers (entries_in (flat_map f xs)) → AreTalks others (entries_in (f x))
-      → AreTalks now (entries_in (flat_map f ys))
-  absorbed numbers others now xs ys x taken is talks more =
-      kept_last now xs ys x is (subst (λ l. AreTalks l (entries_in (flat_map f xs) ++ entries_in (f x))) (sym taken) (both_talk numbers others (entries_in (flat_map f xs)) (entries_in (f x)) talks more))
+    -- a handler's connections come behind those that are known
+    pub absorbed : (tickets others now : List (Ticket L)) (xs ys : List X) (x : X) → now ≡ tickets ++ others → ys ≡ xs ++ x ∷ [] → AreTalks I tickets (entries_in (flat_map f xs)) → AreTalks I others (entries_in (f x))
+        → AreTalks I now (entries_in (flat_map f ys))
+    absorbed tickets others now xs ys x taken is talks more =
+        kept_last now xs ys x is (subst (λ l. AreTalks I l (entries_in (flat_map f xs) ++ entries_in (f x))) (sym taken) (both_talk I tickets others (entries_in (flat_map f xs)) (entries_in (f x)) talks more))
 
   -- the last list is put behind what is gathered
   pub gathered : (all room now : List ReceiptState) (xs rest : List X) (x : X) → now ≡ room ++ f x → xs ≡ rest ++ x ∷ [] → IsPermutation all (room ++ flat_map f xs)
@@ -119,14 +119,14 @@ module _ {X : Type 0} (f : X → List ReceiptState) where
 
 -- ---- all that were accepted
 
-pub have_talked : {N K : Type 0} (L : listener.Ghosts N K) (agreed : Type 0) (old at new : N) (accepted pushed : ℕ) (numbers : List ℕ) (kept receipts : List ReceiptState) → L.given at ≡ L.given old + accepted → new ≡ at → pushed ≡ accepted
-    → IsEachOnce pushed numbers → AreTalks numbers (entries_in kept) → (agreed → IsPermutation kept receipts) → HaveTalked L agreed old new receipts
-have_talked L agreed old at new accepted pushed numbers kept receipts given same all once talks gathers = record {
-  accepted = accepted;
-  numbers = numbers;
+pub have_talked : {N L : Type 0} (K : listener.Ghosts N L) (I : link.Ghosts L) (agreed : Type 0) (old at new : N) (pushed : List L) (tickets : List (Ticket L)) (kept receipts : List ReceiptState) → K.given at ≡ K.given old ++ pushed → new ≡ at
+    → IsEachOnce pushed tickets → AreTalks I tickets (entries_in kept) → (agreed → IsPermutation kept receipts) → HaveTalked K I agreed old new receipts
+have_talked K I agreed old at new pushed tickets kept receipts given same once talks gathers = record {
+  links = pushed;
+  tickets = tickets;
   entries = entries_in kept;
-  given = ap L.given same ∙ given;
-  once = subst (λ n. IsEachOnce n numbers) all once;
+  given = ap K.given same ∙ given;
+  once = once;
   talks = talks;
   answered = λ is. IsPermutation-map (λ (r : ReceiptState). r.entry) kept receipts (gathers is);
 }

@@ -1,5 +1,5 @@
 -- Where no server begins: a start that stands for none. This project's own.
-use Rattle.std.specs.Prelude.{ℕ, [], false, None}
+use Rattle.std.specs.Prelude.{[], false, None}
 use Rattle.cw_assign.specs.declared.delay.Delay.TheVariants.{Idle}
 use Rattle.cw_group.specs.Group.{empty_group}
 use Rattle.cw_model.specs.State.{Cluster}

@@ -1,5 +1,5 @@
 -- How a server ends. This project's own.
-use Rattle.std.specs.Prelude.{◌≡◌, ◌≢◌, ◌⊎◌, ◌+◌, ◌≤◌, ℕ, All, true, None, Some}
+use Rattle.std.specs.Prelude.{◌≡◌, ◌≢◌, ◌⊎◌, ◌+◌, ◌≤◌, ℕ, All, length, true, None, Some}
 use Rattle.cw_types.specs.declared.logs.DiskName.{DiskName}
 use Rattle.cw_types.specs.Faults.{Rose}
 use Rattle.cw_io.specs.declared.outlet.Outlet as outlet
@@ -28,9 +28,9 @@ pub record IsServed {D U N K : Type 0} (O : outlet.Ghosts U) (L : listener.Ghost
   pub ledger : IsAgreed s.end → AreTheJournal s.world.state.journal s.receipts.items
   pub differs : (d : Disagree) → s.end ≡ end.Disagree d → Differs s.world d
   pub alive : s.end ≡ end.Done → s.world.state.closed ≡ None
-  pub done : s.end ≡ end.Done → (L.given s.net ≡ L.given net + conns) ⊎ (L.ended s.net ≡ true)
-  pub given : L.given net ≤ L.given s.net
-  pub most : L.given s.net ≤ L.given net + conns
+  pub done : s.end ≡ end.Done → (length (L.given s.net) ≡ length (L.given net) + conns) ⊎ (L.ended s.net ≡ true)
+  pub given : length (L.given net) ≤ length (L.given s.net)
+  pub most : length (L.given s.net) ≤ length (L.given net) + conns
   pub store : (disk : DiskName) (count : ℕ) → s.end ≡ end.StoreFault disk count →
       s.world.state.closed ≡ Some (disk, count)
   pub closed : (disk : DiskName) (count : ℕ) → s.world.state.closed ≡ Some (disk, count) → IsAgreed s.end →

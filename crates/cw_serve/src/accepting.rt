@@ -1,5 +1,5 @@
 //! The calling thread: it accepts links beside all other threads.
-ghost use Rattle.std.specs.Prelude.{◌≡◌, ◌+◌, ◌≤◌, ◌⊎◌, true, false, vec_len};
+ghost use Rattle.std.specs.Prelude.{◌≡◌, ◌+◌, ◌++◌, ◌≤◌, ◌⊎◌, [], length, true, false, vec_len};
 ghost use Rattle.cw_types.specs.Faults.{Rose};
 ghost use Rattle.cw_line.specs.Sides.{name_of, with_pushed};
 
@@ -24,9 +24,10 @@ fn accept<J: Begun, D: Disk, U: Outlet, C, N: Listener, R: Wait>(
     most: u32,
 ) -> Accepted
     requires seat { name_of line.now ≡ J.table }
-    requires fresh { acceptor.old.pushed ≡ 0 }
-    ensures given { N.given net.new ≡ N.given net.old + result.pushed }
-    ensures pushed { acceptor.new ≡ with_pushed result.pushed acceptor.old }
+    requires fresh { acceptor.old.pushed ≡ [] }
+    ensures given { N.given net.new ≡ N.given net.old ++ acceptor.new.pushed }
+    ensures pushed { acceptor.new ≡ with_pushed acceptor.new.pushed acceptor.old }
+    ensures count { length acceptor.new.pushed ≡ result.pushed }
     ensures most { result.pushed ≤ most }
     ensures done { result.failed ≡ false → (result.pushed ≡ most) ⊎ (N.ended net.new ≡ true) }
     ensures failed { result.failed ≡ true → Rose (N.faults net.old) (N.faults net.new) }
@@ -59,9 +60,10 @@ where
     G: Gate + Sync,
     R: Threads + Wait + std::rt::Clock + Sync,
     requires seat { name_of line.now ≡ J.table }
-    requires fresh { acceptor.old.pushed ≡ 0 }
-    ensures given { N.given net.new ≡ N.given net.old + result.pushed }
-    ensures pushed { acceptor.new ≡ with_pushed result.pushed acceptor.old }
+    requires fresh { acceptor.old.pushed ≡ [] }
+    ensures given { N.given net.new ≡ N.given net.old ++ acceptor.new.pushed }
+    ensures pushed { acceptor.new ≡ with_pushed acceptor.new.pushed acceptor.old }
+    ensures count { length acceptor.new.pushed ≡ result.pushed }
     ensures most { result.pushed ≤ most }
     ensures done { result.failed ≡ false → (result.pushed ≡ most) ⊎ (N.ended net.new ≡ true) }
     ensures failed { result.failed ≡ true → Rose (N.faults net.old) (N.faults net.new) }
@@ -73,9 +75,10 @@ where
         ensures { vec_len crew.exit.now.done ≡ vec_len crew.entry.now.waiting + vec_len crew.entry.now.done }
     { work_all(rt, alloc, common, gate, line, crew) };
     let mut accept = || -> Accepted
-        requires { (name_of line.now ≡ J.table) × (acceptor.now.pushed ≡ 0) }
-        ensures { (N.given net.exit.now ≡ N.given net.entry.now + result.pushed)
-            × (acceptor.exit.now ≡ with_pushed result.pushed acceptor.entry.now)
+        requires { (name_of line.now ≡ J.table) × (acceptor.now.pushed ≡ []) }
+        ensures { (N.given net.exit.now ≡ N.given net.entry.now ++ acceptor.exit.now.pushed)
+            × (acceptor.exit.now ≡ with_pushed acceptor.exit.now.pushed acceptor.entry.now)
+            × (length acceptor.exit.now.pushed ≡ result.pushed)
             × (result.pushed ≤ most)
             × (result.failed ≡ false → (result.pushed ≡ most) ⊎ (N.ended net.exit.now ≡ true))
             × (result.failed ≡ true → Rose (N.faults net.entry.now) (N.faults net.exit.now))

@@ -6,6 +6,7 @@ use crate::crew::Crew;
 use crate::handling::Handler;
 use crate::kept::Kept;
 use crate::naming::Begun;
+use cw_io::Link;
 use cw_line::{Acceptor, Line};
 use std::alloc::{AllocError, Global};
 use std::sync::ledger::Share;
@@ -13,7 +14,7 @@ use std::sync::ledger::Share;
 /// All that takes memory: the handlers, what the calling thread keeps of its own calls, room for what all of them kept,
 /// and when each worker ticked last.
 #[derive(Drop)]
-pub struct Ready<J: Begun, L> {
+pub struct Ready<J: Begun, L: Link> {
     pub crew: Crew<J, L>,
     pub own: Kept<J>,
     pub books: Vec<Kept<J>>,
@@ -21,7 +22,7 @@ pub struct Ready<J: Begun, L> {
 }
 
 /// Makes it. Its only error is want of memory.
-pub fn prepare<J: Begun, L>(
+pub fn prepare<J: Begun, L: Link>(
     alloc: Global,
     line: &Line<L>,
     acceptor: &mut Acceptor<J, L>,
@@ -36,7 +37,7 @@ pub fn prepare<J: Begun, L>(
     ensures crew { IfOk result (λ r. (vec_len r.crew.waiting ≡ handlers) × (vec_len r.crew.done ≡ 0)) }
     ensures own { IfOk result (λ r. r.own.receipts.items ≡ []) }
     ensures books { IfOk result (λ r. (vec_len r.books ≡ 0) × (handlers + 1 ≤ vec_capacity r.books)) }
-    ensures acceptor { IfOk result (λ _. (acceptor.new.parts + handlers ≡ 1024) × (acceptor.new.pushed ≡ 0)) }
+    ensures acceptor { IfOk result (λ _. (acceptor.new.parts + handlers ≡ 1024) × (acceptor.new.pushed ≡ [])) }
     ensures taken { IfOk result (λ _. acceptor.new.taken ≡ []) }
     ensures share { IfOk result (λ _. (rest.new.parts ≡ 1) × (rest.new.amount ≡ 0)) }
 {
@@ -55,7 +56,7 @@ pub fn prepare<J: Begun, L>(
 }
 
 // Handlers, each with a side of the line and a part of the ledger.
-fn split<J: Begun, L>(
+fn split<J: Begun, L: Link>(
     alloc: Global,
     line: &Line<L>,
     acceptor: &mut Acceptor<J, L>,
@@ -67,7 +68,7 @@ fn split<J: Begun, L>(
     requires acceptor { acceptor.old ≡ beginning }
     requires share { (rest.old.parts ≡ handlers + 1) × (rest.old.amount ≡ 0) }
     ensures handlers { IfOk result (λ made. vec_len made ≡ handlers) }
-    ensures acceptor { IfOk result (λ _. (acceptor.new.parts + handlers ≡ 1024) × (acceptor.new.pushed ≡ 0)) }
+    ensures acceptor { IfOk result (λ _. (acceptor.new.parts + handlers ≡ 1024) × (acceptor.new.pushed ≡ [])) }
     ensures taken { IfOk result (λ _. acceptor.new.taken ≡ []) }
     ensures share { IfOk result (λ _. (rest.new.parts ≡ 1) × (rest.new.amount ≡ 0)) }
 {

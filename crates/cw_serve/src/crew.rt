@@ -27,13 +27,13 @@ enum Job {
 
 /// Handlers: those that wait to be started, and those that were joined, with room for all.
 #[derive(Drop)]
-pub struct Crew<J: Begun, L> {
+pub struct Crew<J: Begun, L: Link> {
     pub waiting: Vec<Handler<J, L>>,
     pub done: Vec<Handler<J, L>>,
     pub ghost room: { vec_len waiting + vec_len done ≤ vec_capacity done },
 }
 
-impl<J: Begun, L> Crew<J, L> {
+impl<J: Begun, L: Link> Crew<J, L> {
     /// A crew of these handlers.
     pub fn new(alloc: Global, waiting: Vec<Handler<J, L>>) -> Result<Crew<J, L>, AllocError>
         ensures { IfOk result (λ crew. (vec_len crew.waiting ≡ vec_len waiting) × (vec_len crew.done ≡ 0)) }
@@ -55,7 +55,7 @@ impl<J: Begun, L> Crew<J, L> {
 
 // Handlers that run, and those that were joined. There is room for all of them in each list.
 #[derive(Drop)]
-struct Team<J: Begun, L> {
+struct Team<J: Begun, L: Link> {
     running: Vec<JoinHandle<Handler<J, L>>>,
     done: Vec<Handler<J, L>>,
     size: usize,
@@ -63,7 +63,7 @@ struct Team<J: Begun, L> {
     ghost room: { (size ≤ vec_capacity running) × (size ≤ vec_capacity done) },
 }
 
-impl<J: Begun, L> Team<J, L> {
+impl<J: Begun, L: Link> Team<J, L> {
     // Joins all that run.
     fn joined<R: Threads>(self, rt: &R) -> Vec<Handler<J, L>>
         ensures { vec_len result ≡ vec_len self.running + vec_len self.done }

@@ -42,7 +42,7 @@ pub struct Told<D: Disk> {
 }
 
 /// Takes in the handlers' sides of the line, and puts what they kept into a list that has room for it.
-pub fn absorb_all<J: Begun, L>(
+pub fn absorb_all<J: Begun, L: Link>(
     line: &Line<L>,
     acceptor: &mut Acceptor<J, L>,
     mut done: Vec<Handler<J, L>>,
@@ -55,8 +55,8 @@ pub fn absorb_all<J: Begun, L>(
     ensures pushed { acceptor.new.pushed ≡ acceptor.old.pushed }
     ensures books { vec_len books.new ≡ vec_len books.old + vec_len done }
     ensures room { vec_len books.new < vec_capacity books.new }
-    ensures talks { AreTalks acceptor.old.taken (entries_in (flat_map (λ k. k.receipts.items) books.old.items)) →
-        AreTalks acceptor.new.taken (entries_in (flat_map (λ k. k.receipts.items) books.new.items)) }
+    ensures talks { AreTalks L.Link acceptor.old.taken (entries_in (flat_map (λ k. k.receipts.items) books.old.items)) →
+        AreTalks L.Link acceptor.new.taken (entries_in (flat_map (λ k. k.receipts.items) books.new.items)) }
 {
     while let Some(handler) = done.pop() {
         let Handler { taker, kept } = handler;
@@ -79,8 +79,8 @@ pub fn serve_left<J: Begun, D: Disk, U: Outlet, C, L: Link + Drop, R: Wait>(
     ensures pushed { acceptor.new.pushed ≡ acceptor.old.pushed }
     ensures each_once { IsEachOnce acceptor.new.pushed acceptor.new.taken }
     ensures talks { (others : List JournalEntry) →
-        AreTalks acceptor.old.taken (others ++ entries_in own.receipts.items) →
-        AreTalks acceptor.new.taken (others ++ entries_in result.receipts.items) }
+        AreTalks L.Link acceptor.old.taken (others ++ entries_in own.receipts.items) →
+        AreTalks L.Link acceptor.new.taken (others ++ entries_in result.receipts.items) }
 {
     let mut own = own;
     for _ in rt.forever() {
@@ -183,7 +183,7 @@ pub fn end_line<J: Begun, D: Disk, U: Outlet, C, L: Link + Drop, R: Wait>(
     requires fresh { (acceptor.old.taken ≡ []) × (own.receipts.items ≡ []) }
     ensures all { vec_len result ≡ vec_len crew.done + 1 }
     ensures each_once { IsEachOnce acceptor.old.pushed acceptor.new.taken }
-    ensures talks { AreTalks acceptor.new.taken (entries_in (flat_map (λ k. k.receipts.items) result.items)) }
+    ensures talks { AreTalks L.Link acceptor.new.taken (entries_in (flat_map (λ k. k.receipts.items) result.items)) }
 {
     let Crew { waiting: _, done } = crew;
     let mut books = books;

@@ -17,24 +17,25 @@ use std::sync::Wait;
 use std::thread;
 use std::time::Duration;
 
-/// What a handler has: its side of the line, and what it keeps of its calls. Clauses see the numbers of the links that
-/// it took. Over each of these there was one connection, and the connections were answered by the entries of which it
-/// keeps receipts.
+/// What a handler has: its side of the line, and what it keeps of its calls. Clauses see the links that it took, with
+/// their numbers, as they were accepted. Over each of these there was one connection, and the connections were answered
+/// by the entries of which it keeps receipts.
 #[derive(Drop)]
-pub struct Handler<J: Begun, L> {
+pub struct Handler<J: Begun, L: Link> {
     pub taker: Taker<J, L>,
     pub kept: Kept<J>,
 }
 
-impl<J: Begun, L> Model for Handler<J, L> {
-    ghost use Rattle.std.specs.Prelude.{ℕ, List};
+impl<J: Begun, L: Link> Model for Handler<J, L> {
+    ghost use Rattle.std.specs.Prelude.{List};
+    ghost use Rattle.cw_line.specs.declared.rule.Ticket.{Ticket};
     ghost use Rattle.cw_serve.specs.Talking.{AreTalks, entries_in};
 
-    ghost Value = { List ℕ };
+    ghost Value = { List (Ticket L) };
 
     ghost view = { λ h. h.taker };
 
-    ghost invariant = { λ h. AreTalks h.taker (entries_in h.kept.receipts.items) };
+    ghost invariant = { λ h. AreTalks L.Link h.taker (entries_in h.kept.receipts.items) };
 }
 
 /// Serves links until all were accepted and none waits. It sleeps for a millisecond where none waits.
@@ -74,8 +75,7 @@ pub fn serve_link<J: Begun, D: Disk, U: Outlet, C, L: Link + Drop, R: Wait>(
     ticket: Ticket<L>,
     kept: Kept<J>,
 ) -> Kept<J>
-    ensures { Serves ticket.number (L.left ticket.link) (L.held ticket.link) (entries_in kept.receipts.items)
-        (entries_in result.receipts.items) }
+    ensures { Serves L.Link ticket (entries_in kept.receipts.items) (entries_in result.receipts.items) }
 {
     let Ticket { number, mut link } = ticket;
     let mut desk = LockDesk {

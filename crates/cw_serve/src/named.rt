@@ -49,7 +49,7 @@ pub fn unserved<D: Disk, U: Outlet, N: Listener>(
     requires fresh { (world.state.journal ≡ []) × (world.state.closed ≡ None) }
     ensures world { result.world ≡ world }
     ensures served { (conns : ℕ) → IsServed U.Outlet N.Listener conns outlet net result }
-    ensures talked { HaveTalked N.Listener (IsAgreed result.end) net result.net result.receipts.items }
+    ensures talked { HaveTalked N.Listener N.Link.Link (IsAgreed result.end) net result.net result.receipts.items }
 {
     Served {
         world,
@@ -68,7 +68,7 @@ pub fn serve_named<J, R, D, U, N, C, G>(
     gate: &G,
     blank: Blank,
     line: &Line<N::Link>,
-    pass: Pass<Ticket<N::Link>, Hand>,
+    pass: Pass<Ticket<N::Link>, Hand<N::Link>>,
 ) -> Served<D, U, N>
 where
     J: Begun + Send + Sync,
@@ -87,7 +87,8 @@ where
     requires sizes { AreServed given.sizes }
     ensures goes_on { GoesOn D.Disk J.start result.world }
     ensures served { IsServed U.Outlet N.Listener given.sizes.conns given.outlet given.net result }
-    ensures talked { HaveTalked N.Listener (IsAgreed result.end) given.net result.net result.receipts.items }
+    ensures talked { HaveTalked N.Listener N.Link.Link (IsAgreed result.end) given.net result.net
+        result.receipts.items }
 {
     let (book, mut rest) = blank.open::<J>();
     let mut acceptor = Acceptor::<J, N::Link>::new(pass);

@@ -1,5 +1,5 @@
 //! The server.
-ghost use Rattle.std.specs.Prelude.{◌≡◌, ◌+◌, ◌≤◌, ◌⊎◌, ℕ, [], true, None, Some};
+ghost use Rattle.std.specs.Prelude.{◌≡◌, ◌+◌, ◌≤◌, ◌⊎◌, ℕ, [], length, true, None, Some};
 ghost use Rattle.cw_types.specs.Faults.{Rose};
 ghost use Rattle.cw_types.specs.declared.logs.DiskName.{DiskName};
 ghost use Rattle.cw_desk.specs.declared.comparing.Disagree.{Disagree};
@@ -58,10 +58,10 @@ where
     ensures ledger { IsAgreed result.end → AreTheJournal result.world.state.journal result.receipts.items }
     ensures differs { (d : Disagree) → result.end ≡ ServeEnd.Disagree d → Differs result.world d }
     ensures done { result.end ≡ ServeEnd.Done → (result.world.state.closed ≡ None) ×
-        ((N.given result.net ≡ N.given net + sizes.conns) ⊎ (N.ended result.net ≡ true)) }
-    ensures talked { HaveTalked N.Listener (IsAgreed result.end) net result.net result.receipts.items }
-    ensures given { N.given net ≤ N.given result.net }
-    ensures most { N.given result.net ≤ N.given net + sizes.conns }
+        ((length (N.given result.net) ≡ length (N.given net) + sizes.conns) ⊎ (N.ended result.net ≡ true)) }
+    ensures talked { HaveTalked N.Listener N.Link.Link (IsAgreed result.end) net result.net result.receipts.items }
+    ensures given { length (N.given net) ≤ length (N.given result.net) }
+    ensures most { length (N.given result.net) ≤ length (N.given net) + sizes.conns }
     ensures store { (disk : DiskName) (count : ℕ) → result.end ≡ ServeEnd.StoreFault disk count →
         result.world.state.closed ≡ Some (disk, count) }
     ensures closed { (disk : DiskName) (count : ℕ) → result.world.state.closed ≡ Some (disk, count) →

@@ -17,7 +17,7 @@ returns-in-Ok-open_cluster-clause-runs g c =
       tells = tell_all g.D.Disk c.in-Ok-open_cluster.world.logs;
       set = record { feeds = set.feeds; loaded = λ held told. set.loaded held (c.load.ensures.kept ∙ told); set = set.set; names = set.names };
       from = c.in-Ok-open_cluster.ensures.from;
-      over = subst (λ (sizes : Sizes). IsServedOver g.D.Disk g.N.Listener sizes.conns c.in-Ok-open_cluster.world.setting c.in-Ok-open_cluster.world.state (tell_all g.D.Disk c.in-Ok-open_cluster.world.logs)
+      over = subst (λ (sizes : Sizes). IsServedOver g.D.Disk g.N.Listener g.N.Link.Link sizes.conns c.in-Ok-open_cluster.world.setting c.in-Ok-open_cluster.world.state (tell_all g.D.Disk c.in-Ok-open_cluster.world.logs)
           c.serve_opened.result.status c.serve_opened.result.disks c.args.net c.serve_opened.result.net c.serve_opened.result.journal c.serve_opened.result.receipts.items) c.sizes_of-sizes.ensures c.serve_opened.ensures.over;
     })
 

@@ -26,7 +26,7 @@ returns-clause-over g c =
         disks = broken.stands;
       };
       few = ran.most;
-      talked = talked_under g.N.Listener c.args.net c.serve-world.result.net c.serve-world.result.receipts.items c.serve-world.result.end c.of_serve.result c.of_serve.ensures ran.talked;
+      talked = talked_under g.N.Listener g.N.Link.Link c.args.net c.serve-world.result.net c.serve-world.result.receipts.items c.serve-world.result.end c.of_serve.result c.of_serve.ensures ran.talked;
       due = subst (λ (s : Status). IsServeDue g.N.Listener c.args.sizes.conns s c.serve-world.result.world.state c.args.net c.serve-world.result.net c.give_back-disks.result.1 c.serve-world.result.receipts.items) (sym c.of_serve.ensures)
           (serve_due g.N.Listener c.args.sizes.conns c.serve-world.result.world c.args.net c.serve-world.result.net c.give_back-disks.result.1 c.serve-world.result.receipts.items c.give_back-disks.ensures.journal
           c.serve-world.result.end ran.ledger ran.differs ran.done ran.store ran.closed);

@@ -1,7 +1,7 @@
 use Rattle.std.proofs.Common.{◌≡◌, ◌∙◌, ◌⊎◌, Some, ap, arith, refl, subst}
 use Rattle.cw_model.specs.Reopening.{reopened, stored_of}
 use Rattle.cw_words.specs.Asked.{command_of}
-use Rattle.cw_words.specs.declared.command.Command.TheVariants.{Gen, Serve}
+use Rattle.cw_words.specs.declared.command.Command.TheVariants.{Gen}
 use Rattle.cw_words.specs.declared.command.GenOptions.{GenOptions}
 use Rattle.cw_words.specs.declared.command.Options.{Options}
 use Rattle.cw_words.specs.declared.command.ServeOptions.{ServeOptions}
@@ -160,18 +160,18 @@ returns-in-Serve g c = λ words asked.
       audits_apart = λ options also. absurd (audit_or_serve (command_of words) options c.in-Serve.options also is);
       generates = λ options also. absurd (gen_or_serve (command_of words) options c.in-Serve.options also is);
       generates_apart = λ options also. absurd (gen_or_serve (command_of words) options c.in-Serve.options also is);
-      serves = λ options also. subst (λ (o : ServeOptions). IsServeRun g.D.Disk g.H.Shelf g.N.Listener o c.open_and_serve.result.status c.args.shelf.now c.args.disks c.open_and_serve.result.disks c.args.outlet
+      serves = λ options also. subst (λ (o : ServeOptions). IsServeRun g.D.Disk g.H.Shelf g.N.Listener g.N.Link.Link o c.open_and_serve.result.status c.args.shelf.now c.args.disks c.open_and_serve.result.disks c.args.outlet
           c.open_and_serve.result.outlet c.args.net c.open_and_serve.result.net c.open_and_serve.result.journal c.open_and_serve.result.receipts.items) (same_serve (command_of words) c.in-Serve.options options is also) done.runs;
       serves_apart = λ options also. (refl, refl);
       net_apart = λ other. absurd (other c.in-Serve.options is);
       makes = λ options also. absurd (drive_or_serve (command_of words) options c.in-Serve.options also is);
-      usage = λ it. absurd (no_usage g.D.Disk g.H.Shelf g.N.Listener c.in-Serve.options c.open_and_serve.result.status c.args.shelf.now c.args.disks c.open_and_serve.result.disks c.args.outlet
+      usage = λ it. absurd (no_usage g.D.Disk g.H.Shelf g.N.Listener g.N.Link.Link c.in-Serve.options c.open_and_serve.result.status c.args.shelf.now c.args.disks c.open_and_serve.result.disks c.args.outlet
           c.open_and_serve.result.outlet c.args.net c.open_and_serve.result.net c.open_and_serve.result.journal c.open_and_serve.result.receipts.items done.runs it);
       no_command = λ none. absurd (some_or_none (command_of words) _ is none);
       untouched = λ none. absurd (some_or_none (command_of words) _ is none);
       damaged_only = done.damaged_only;
       damaged = λ other also opens files tell at place harm has.
-          serve_refused g.D.Disk g.H.Shelf g.N.Listener c.in-Serve.options c.open_and_serve.result.status c.args.shelf.now c.args.disks c.open_and_serve.result.disks c.args.outlet
+          serve_refused g.D.Disk g.H.Shelf g.N.Listener g.N.Link.Link c.in-Serve.options c.open_and_serve.result.status c.args.shelf.now c.args.disks c.open_and_serve.result.disks c.args.outlet
           c.open_and_serve.result.outlet c.args.net c.open_and_serve.result.net c.open_and_serve.result.journal c.open_and_serve.result.receipts.items done.runs done.damaged_only
           (λ setting s files at place harm facts stand. c.files_open_one_way.ensures.harm files (stored_of s) (reopened s) at place harm stand (c.written_logs_open_again.ensures.stand setting s facts))
           files tell at place harm has;
@@ -179,9 +179,9 @@ returns-in-Serve g c = λ words asked.
       shelf_fault = done.shelf_fault;
       outlet_fault = done.outlet_fault;
       net_fault = done.net_fault;
-      read_fault = λ it. absurd (no_read g.D.Disk g.H.Shelf g.N.Listener c.in-Serve.options c.open_and_serve.result.status c.args.shelf.now c.args.disks c.open_and_serve.result.disks c.args.outlet
+      read_fault = λ it. absurd (no_read g.D.Disk g.H.Shelf g.N.Listener g.N.Link.Link c.in-Serve.options c.open_and_serve.result.status c.args.shelf.now c.args.disks c.open_and_serve.result.disks c.args.outlet
           c.open_and_serve.result.outlet c.args.net c.open_and_serve.result.net c.open_and_serve.result.journal c.open_and_serve.result.receipts.items done.runs it);
-      write_fault = λ it. absurd (no_write g.D.Disk g.H.Shelf g.N.Listener c.in-Serve.options c.open_and_serve.result.status c.args.shelf.now c.args.disks c.open_and_serve.result.disks c.args.outlet
+      write_fault = λ it. absurd (no_write g.D.Disk g.H.Shelf g.N.Listener g.N.Link.Link c.in-Serve.options c.open_and_serve.result.status c.args.shelf.now c.args.disks c.open_and_serve.result.disks c.args.outlet
           c.open_and_serve.result.outlet c.args.net c.open_and_serve.result.net c.open_and_serve.result.journal c.open_and_serve.result.receipts.items done.runs it);
       later_in = omega arith;
       later_out = omega arith;
@@ -193,7 +193,7 @@ returns-in-Serve g c = λ words asked.
       reported = λ options also. absurd (audit_or_serve (command_of words) options c.in-Serve.options also is);
       summed = λ options also. absurd (gen_or_serve (command_of words) options c.in-Serve.options also is);
       served_complete = λ options also files tell stored s lists stand calm_shelf calm_outlet calm_net calm_disks.
-          serve_completed g.D.Disk g.H.Shelf g.N.Listener c.in-Serve.options c.open_and_serve.result.status c.args.shelf.now c.args.disks c.open_and_serve.result.disks c.args.outlet
+          serve_completed g.D.Disk g.H.Shelf g.N.Listener g.N.Link.Link c.in-Serve.options c.open_and_serve.result.status c.args.shelf.now c.args.disks c.open_and_serve.result.disks c.args.outlet
           c.open_and_serve.result.outlet c.args.net c.open_and_serve.result.net c.open_and_serve.result.journal c.open_and_serve.result.receipts.items done.runs
           (λ disk at harm it. c.files_open_one_way.ensures.harm files stored s disk at harm lists stand (done.damaged_only disk at harm it files tell))
           (λ it. calm_shelf (done.shelf_fault it)) (λ it. calm_outlet (done.outlet_fault it)) (λ it. calm_net (done.net_fault it))

@@ -9,8 +9,8 @@ invariant-loop-handler g l =
     × (l.fn.acceptor.parts ≤ l.acceptor.parts)
     × (vec_len l.books + vec_len l.done ≡ vec_len l.fn.books + vec_len l.fn.done)
     × (vec_len l.books + vec_len l.done < vec_capacity l.books)
-    × (AreTalks l.fn.acceptor.taken (entries_in (flat_map (λ k. k.receipts.items) l.fn.books.items)) →
-    AreTalks l.acceptor.taken (entries_in (flat_map (λ k. k.receipts.items) l.books.items)))
+    × (AreTalks g.L.Link l.fn.acceptor.taken (entries_in (flat_map (λ k. k.receipts.items) l.fn.books.items)) →
+    AreTalks g.L.Link l.acceptor.taken (entries_in (flat_map (λ k. k.receipts.items) l.books.items)))
 
 abbrev pub decreases-loop-handler : goal.decreases-loop-handler
 decreases-loop-handler g l = vec_len l.done

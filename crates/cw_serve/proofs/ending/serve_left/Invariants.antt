@@ -6,5 +6,5 @@ use Rattle.cw_serve.proofs.ending.serve_left.Given as goal
 abbrev pub invariant-loop : goal.invariant-loop
 invariant-loop g l =
     (l.acceptor.parts ≡ 1024) × (l.acceptor.pushed ≡ l.fn.acceptor.pushed)
-    × ((others : List JournalEntry) → AreTalks l.fn.acceptor.taken (others ++ entries_in l.fn.own.receipts.items) →
-    AreTalks l.acceptor.taken (others ++ entries_in l.own.receipts.items))
+    × ((others : List JournalEntry) → AreTalks g.L.Link l.fn.acceptor.taken (others ++ entries_in l.fn.own.receipts.items) →
+    AreTalks g.L.Link l.acceptor.taken (others ++ entries_in l.own.receipts.items))

@@ -4,5 +4,5 @@ use Rattle.cw_serve.proofs.handling.serve_link.Goals as goal
 
 pub returns : goal.returns
 returns g c =
-    served c.args.ticket.number c.serve_conn.result (g.L.Link.left c.args.ticket.link) (g.L.Link.held c.args.ticket.link) _ _
+    served g.L.Link c.args.ticket c.serve_conn.result _ _
     (entries_in c.args.kept.receipts.items) (entries_in c.serve_conn.new.desk.kept.receipts.items) c.serve_conn.ensures.talked.1

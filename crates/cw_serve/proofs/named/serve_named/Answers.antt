@@ -1,4 +1,5 @@
-use Rattle.std.proofs.Common.{rules, ◌≡◌, ◌+◌, ◌≤◌, ◌⊎◌, ⊎_elim, inl, inr, true, arith, ap, sym, subst, ◌∙◌}
+use Rattle.std.proofs.Common.{◌≡◌, ◌+◌, ◌≤◌, ◌⊎◌, ⊎_elim, inl, inr, length, true, arith, ap, sym, subst, ◌∙◌}
+use Rattle.std.proofs.lemmas.List.{length-append}
 use Rattle.cw_types.specs.Faults.{Rose}
 use Rattle.cw_turns.specs.Going.{GoesOn}
 use Rattle.cw_serve.proofs.Talking.{have_talked}
@@ -22,14 +23,16 @@ returns-clause-served g c =
     let a = c.accept_beside-accepted in
     let end = c.finish.ensures in
     let left = sym end.net in
+    let grew : length (L.given a.new.net) ≡ length (L.given net) + a.result.pushed =
+    ap length a.ensures.given ∙ length-append (L.given net) a.new.acceptor.pushed ∙ ap (λ count. length (L.given net) + count) a.ensures.count in
     record {
       ledger = end.ledger;
       differs = end.differs;
       alive = λ is. (end.done is).0;
-      done = λ is. subst (λ n. (L.given n ≡ L.given net + conns) ⊎ (L.ended n ≡ true)) left
-          (⊎_elim (λ full. inl (a.ensures.given ∙ ap (λ count. L.given net + count) full)) (λ over. inr over) (a.ensures.done (end.done is).1));
-      given = subst (λ n. L.given net ≤ L.given n) left (omega (arith, a.ensures.given));
-      most = subst (λ n. L.given n ≤ L.given net + conns) left (omega (arith, a.ensures.given, a.ensures.most));
+      done = λ is. subst (λ n. (length (L.given n) ≡ length (L.given net) + conns) ⊎ (L.ended n ≡ true)) left
+          (⊎_elim (λ full. inl (omega (arith, grew, full))) (λ over. inr over) (a.ensures.done (end.done is).1));
+      given = subst (λ n. length (L.given net) ≤ length (L.given n)) left (omega (arith, grew));
+      most = subst (λ n. length (L.given n) ≤ length (L.given net) + conns) left (omega (arith, grew, a.ensures.most));
       store = end.store;
       closed = end.closed;
       outlet_fault = λ is. subst (λ faults. Rose faults (g.U.Outlet.faults c.finish.result.outlet)) c.requires.outlet (end.outlet_fault is);
@@ -45,6 +48,5 @@ pub returns-clause-talked : goal.returns-clause-talked
 returns-clause-talked g c =
     let a = c.accept_beside-accepted in
     let line = c.end_line-books.ensures in
-    let pushed : a.new.acceptor.pushed ≡ a.result.pushed = search rules in
-    have_talked g.N.Listener _ c.args.given.net a.new.net _ a.result.pushed a.new.acceptor.pushed _ _ c.finish.result.receipts.items
-    a.ensures.given c.finish.ensures.net pushed line.each_once line.talks c.finish.ensures.same
+    have_talked g.N.Listener g.N.Link.Link _ c.args.given.net a.new.net _ a.new.acceptor.pushed _ _ c.finish.result.receipts.items
+    a.ensures.given c.finish.ensures.net line.each_once line.talks c.finish.ensures.same

@@ -1,6 +1,6 @@
 use Rattle.std.proofs.Common.{rules, ◌∙◌, sym, subst}
 use Rattle.cw_desk.specs.Keeping.{KeepsJournal}
-use Rattle.cw_serve.specs.Sharing.{IsShared, HasRoom}
+use Rattle.cw_serve.specs.Sharing.{IsShared}
 use Rattle.cw_serve.proofs.Keeping.{stays_shared, counts_one, all_behind}
 use Rattle.cw_serve.proofs.shared.Shared.answer.Goals as goal
 
