@@ -47,16 +47,32 @@ pub(crate) struct Bases {
 pub(crate) fn play_bases<R: AllocGlobal + Threads + Wait + Clock + Sync>(
     rt: &R,
 ) -> Result<Bases, AllocError> {
-    let commit = play(rt, empty_disks(rt.alloc()), COMMIT)?.disks;
-    let uncompacted = play(rt, empty_disks(rt.alloc()), UNCOMPACTED)?.disks;
-    let going_on = images_of(rt.alloc(), &uncompacted, Way::AsRead)?;
-    let source = play(rt, going_on, COMPACTIONS)?.disks;
+    let commit = disks_behind(rt, empty_disks(rt.alloc()), COMMIT)?;
+    let uncompacted = disks_behind(rt, empty_disks(rt.alloc()), UNCOMPACTED)?;
+    let source = compacted(rt, &uncompacted)?;
     Ok(Bases {
         empty: empty_disks(rt.alloc()),
         commit,
         uncompacted,
         source,
     })
+}
+
+// The disks behind a script that is played over these.
+fn disks_behind<R: AllocGlobal + Threads + Wait + Clock + Sync>(
+    rt: &R,
+    disks: Disks<MemDisk>,
+    script: &[u8],
+) -> Result<Disks<MemDisk>, AllocError> {
+    Ok(play(rt, disks, script)?.disks)
+}
+
+// The disks behind the compactions, played over what these hold.
+fn compacted<R: AllocGlobal + Threads + Wait + Clock + Sync>(
+    rt: &R,
+    disks: &Disks<MemDisk>,
+) -> Result<Disks<MemDisk>, AllocError> {
+    disks_behind(rt, images_of(rt.alloc(), disks, Way::AsRead)?, COMPACTIONS)
 }
 
 // Which disks are changed.
