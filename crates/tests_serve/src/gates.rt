@@ -96,9 +96,11 @@ pub(crate) struct Waiting<'r, R: Clock, G: Watched> {
 }
 
 impl<R: Clock, G: Watched> Listener for Waiting<'_, R, G> {
+    ghost use Rattle.std.specs.Prelude.{[]};
+
     type Link = MemLink;
 
-    ghost given = { λ l. 0 };
+    ghost given = { λ l. [] };
 
     ghost ended = { λ l. l.ended };
 
