@@ -4,3 +4,6 @@ pub mod Faults
 pub mod Keeping
 pub mod Talking
 pub mod Unbegun
+pub mod Boarding
+pub mod Following
+pub mod Standing

@@ -5,3 +5,5 @@ pub mod Starting
 pub mod Talking
 pub mod Serving
 pub mod Working
+pub mod Boarding
+pub mod Following

@@ -15,9 +15,9 @@ use std::sync::Wait;
 use std::thread::{Threads, join_mut};
 
 // Accepts links, and then marks that all were accepted.
-fn accept<J: Begun, D: Disk, U: Outlet, C, N: Listener, R: Wait>(
+fn accept<J: Begun, D: Disk, U: Outlet, C, N: Listener, R: Wait, W: Wait + Drop>(
     rt: &R,
-    common: &Common<J, D, U, C>,
+    common: &Common<J, D, U, C, W>,
     line: &Line<N::Link>,
     acceptor: &mut Acceptor<J, N::Link>,
     net: &mut N,
@@ -39,10 +39,10 @@ fn accept<J: Begun, D: Disk, U: Outlet, C, N: Listener, R: Wait>(
 }
 
 /// Accepts links in this thread, while the crew and all other threads work. All are joined then.
-pub fn accept_beside<'a, J, R, D, U, N, C, G>(
+pub fn accept_beside<'a, J, R, D, U, N, C, G, W>(
     rt: &'a R,
     alloc: Global,
-    common: &'a Common<J, D, U, C>,
+    common: &'a Common<J, D, U, C, W>,
     gate: &'a G,
     line: &'a Line<N::Link>,
     acceptor: &'a mut Acceptor<J, N::Link>,
@@ -59,6 +59,7 @@ where
     C: Clock + Send,
     G: Gate + Sync,
     R: Threads + Wait + std::rt::Clock + Sync,
+    W: Wait + Drop + Send,
     requires seat { name_of line.now ≡ J.table }
     requires fresh { acceptor.old.pushed ≡ [] }
     ensures given { N.given net.new ≡ N.given net.old ++ acceptor.new.pushed }

@@ -1,21 +1,50 @@
 //! The turn of a connection handler under the lock: a call is answered and journaled, and its receipt kept.
-ghost use Rattle.std.specs.Prelude.{◌≡◌, ◌<◌, ◌++◌, [], ◌∷◌, IfOk, OnErr};
+ghost use Rattle.std.specs.Prelude.{◌≡◌, ◌<◌, ◌≤◌, ◌++◌, [], ◌∷◌, true, length, IsTrue, IfSome, IfOk, OnErr};
+ghost use Rattle.cw_board.specs.Records.{IsFirstPart};
+ghost use Rattle.cw_model.specs.Journal.{IsTrueEntry};
 ghost use Rattle.cw_world.specs.Receipts.{ReceiptState};
 ghost use Rattle.cw_serve.specs.Answering.{IsKeptBy};
+ghost use Rattle.cw_serve.specs.Boarding.{IsReadFrom, IsStanding, known_of};
 
 use crate::kept::Kept;
 use crate::naming::Begun;
+use crate::publishing::read_of;
+use crate::seeing::{Seen, entry_seen, glance, look_again};
 use crate::shared::Shared;
+use cw_board::{Board, BoardWriter};
 use cw_disk::Disk;
+use cw_model::JournalEntry;
 use cw_route::Call;
 use std::alloc::{AllocError, Global};
 use std::sync::{Mutex, Wait};
 
-impl<J: Begun, D: Disk> Shared<J, D> {
+impl<J: Begun, D: Disk, W: Wait + Drop> Shared<J, D, W> {
     /// A call through a worker is answered, journaled, and its receipt kept. Room is made first, so that nothing is
-    /// journaled without a receipt. The only error is want of memory: nothing is journaled then, but the call may have
-    /// been done.
+    /// journaled without a receipt. What the worker has read of the config log is published then, and the handler's
+    /// reader is told of it. The only error is want of memory: nothing is journaled then, but the call may have been
+    /// done.
     pub fn answer(
+        &mut self,
+        alloc: Global,
+        kept: &mut Kept<J>,
+        w: u32,
+        call: Call,
+    ) -> Result<(), AllocError>
+        requires { w < J.workers }
+        ensures done { IfOk result (λ _. (r : ReceiptState) ×
+            IsKeptBy call r kept.old.receipts.items kept.new.receipts.items ×
+            (self.new.state.journal ≡ self.old.state.journal ++ r.entry ∷ [])) }
+        ensures err { OnErr result ((kept.new.receipts.items ≡ kept.old.receipts.items) ×
+            (self.new.state.journal ≡ self.old.state.journal)) }
+    {
+        let done = self.take(alloc, kept, w, call);
+        self.publish(alloc, w);
+        tell(&self.board, &mut kept.board);
+        done
+    }
+
+    // The same, before what the worker has read is published.
+    fn take(
         &mut self,
         alloc: Global,
         kept: &mut Kept<J>,
@@ -36,22 +65,124 @@ impl<J: Begun, D: Disk> Shared<J, D> {
             moments: _,
             ended: _,
             stop: _,
+            board: _,
+            given: _,
+            lacks: _,
         } = self;
-        let Kept { receipts, share } = kept;
+        let Kept {
+            receipts,
+            share,
+            board: _,
+            least,
+        } = kept;
         receipts.reserve(1)?;
         room.reserve(world.cluster().journaled().len() + 1)?;
         let receipt = cw_turns::answer(alloc, world, w, call)?;
+        world.is_safe();
+        *least = read_of(world, w).max(*least);
         receipts.push_reserved(receipt);
+        book.add(share, 1);
+        Ok(())
+    }
+
+    /// The same of a call that was answered from a view of the board: its entry is journaled where what the handler's
+    /// reader saw of the worker stands in the config log as far as that was published; else the call is answered here.
+    pub fn answer_seen(
+        &mut self,
+        alloc: Global,
+        kept: &mut Kept<J>,
+        w: u32,
+        call: Call,
+        seen: Seen,
+    ) -> Result<(), AllocError>
+        requires worker { w < J.workers }
+        requires seen { IsReadFrom (known_of w kept.old.board) call seen }
+        requires least { kept.old.least ≤ seen.prefix }
+        ensures done { IfOk result (λ _. (r : ReceiptState) ×
+            IsKeptBy call r kept.old.receipts.items kept.new.receipts.items ×
+            (self.new.state.journal ≡ self.old.state.journal ++ r.entry ∷ [])) }
+        ensures err { OnErr result ((kept.new.receipts.items ≡ kept.old.receipts.items) ×
+            (self.new.state.journal ≡ self.old.state.journal)) }
+    {
+        if self.stands(&mut kept.board, w, seen.prefix) {
+            self.keep_seen(kept, entry_seen(w, call, seen))
+        } else {
+            self.answer(alloc, kept, w, call)
+        }
+    }
+
+    // Whether so many records of a worker, which a reader saw, were published by this board's writer, where nothing that
+    // was given to it is unpublished. The reader is told of what is published first, and looks once more.
+    fn stands(&self, reader: &mut Option<Board<J>>, w: u32, prefix: u64) -> bool
+        requires worker { w < J.workers }
+        requires prefix { prefix ≡ length (known_of w reader.old) }
+        ensures { IsTrue result → IsStanding (known_of w reader.old) w self.now.state }
+    {
+        if self.lacks {
+            return false;
+        }
+        let Some(board) = reader.take() else {
+            return false;
+        };
+        let (board, shown) = look_again(board, self.board.note(), w);
+        *reader = Some(board);
+        shown.is_some() && prefix <= self.given[w as usize]
+    }
+
+    // An entry that is true and goes on behind the handler's other ones is journaled, and its receipt kept.
+    fn keep_seen(&mut self, kept: &mut Kept<J>, entry: JournalEntry) -> Result<(), AllocError>
+        requires board { entry.board ≡ true }
+        requires holds { IsTrueEntry self.old.setting self.old.state self.old.state.journal entry }
+        requires least { kept.old.least ≤ entry.prefix }
+        ensures done { IfOk result (λ _. (r : ReceiptState) ×
+            IsKeptBy entry.call r kept.old.receipts.items kept.new.receipts.items ×
+            (self.new.state.journal ≡ self.old.state.journal ++ r.entry ∷ [])) }
+        ensures err { OnErr result ((kept.new.receipts.items ≡ kept.old.receipts.items) ×
+            (self.new.state.journal ≡ self.old.state.journal)) }
+    {
+        let Shared {
+            world,
+            book,
+            room,
+            moments: _,
+            ended: _,
+            stop: _,
+            board: _,
+            given: _,
+            lacks: _,
+        } = self;
+        let Kept {
+            receipts,
+            share,
+            board: _,
+            least,
+        } = kept;
+        receipts.reserve(1)?;
+        room.reserve(world.cluster().journaled().len() + 1)?;
+        let prefix = entry.prefix;
+        let noted = cw_turns::keep_seen(world, entry)?;
+        *least = prefix;
+        receipts.push_reserved(noted);
         book.add(share, 1);
         Ok(())
     }
 }
 
-/// The same by any thread. Of the world no clause can speak here, but of what the caller keeps.
-pub fn answer<J: Begun, D: Disk>(
+// Tells a reader, where there is one, of what is published.
+fn tell<J: Begun, W: Wait + Drop>(board: &BoardWriter<J, W>, reader: &mut Option<Board<J>>)
+    ensures { IfSome reader.new (λ known. IsFirstPart board.now.published known) }
+{
+    if let Some(reader) = reader {
+        reader.tell(board.note());
+    }
+}
+
+/// A call through a worker is answered by any thread: from the board, or else under the lock alone. Of the world no
+/// clause can speak here, but of what the caller keeps.
+pub fn answer<J: Begun, D: Disk, W: Wait + Drop>(
     rt: &impl Wait,
     alloc: Global,
-    lock: &Mutex<Shared<J, D>>,
+    lock: &Mutex<Shared<J, D, W>>,
     kept: &mut Kept<J>,
     w: u32,
     call: Call,
@@ -61,5 +192,8 @@ pub fn answer<J: Begun, D: Disk>(
         IsKeptBy call r kept.old.receipts.items kept.new.receipts.items) }
     ensures err { OnErr result (kept.new.receipts.items ≡ kept.old.receipts.items) }
 {
-    lock.lock(rt).answer(alloc, kept, w, call)
+    match glance(alloc, &mut kept.board, kept.least, w, &call) {
+        Some(seen) => lock.lock(rt).answer_seen(alloc, kept, w, call, seen),
+        None => lock.lock(rt).answer(alloc, kept, w, call),
+    }
 }

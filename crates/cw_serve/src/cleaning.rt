@@ -22,9 +22,9 @@ struct Compacted {
 
 /// Compacts logs until the server ends. It looks at each of the three logs in turn, calls the gate behind each
 /// compaction, and then sleeps for a millisecond.
-pub fn clean<J: Begun, D: Disk, U: Outlet, C, G: Gate, R: Wait + std::rt::Clock>(
+pub fn clean<J: Begun, D: Disk, U: Outlet, C, G: Gate, R: Wait + std::rt::Clock, W: Wait + Drop>(
     rt: &R,
-    common: &Common<J, D, U, C>,
+    common: &Common<J, D, U, C, W>,
     gate: &G,
 ) {
     let mut last = Compacted {
@@ -41,9 +41,9 @@ pub fn clean<J: Begun, D: Disk, U: Outlet, C, G: Gate, R: Wait + std::rt::Clock>
 }
 
 // Looks at each log; false where the server ends.
-fn clean_all<J: Begun, D: Disk, U: Outlet, C, G: Gate, R: Wait>(
+fn clean_all<J: Begun, D: Disk, U: Outlet, C, G: Gate, R: Wait, W: Wait + Drop>(
     rt: &R,
-    common: &Common<J, D, U, C>,
+    common: &Common<J, D, U, C, W>,
     gate: &G,
     last: &mut Compacted,
 ) -> bool {
@@ -53,9 +53,9 @@ fn clean_all<J: Begun, D: Disk, U: Outlet, C, G: Gate, R: Wait>(
 }
 
 // Compacts a log where that is worth it; false where the server ends.
-fn clean_log<J: Begun, D: Disk, U: Outlet, C, G: Gate, R: Wait>(
+fn clean_log<J: Begun, D: Disk, U: Outlet, C, G: Gate, R: Wait, W: Wait + Drop>(
     rt: &R,
-    common: &Common<J, D, U, C>,
+    common: &Common<J, D, U, C, W>,
     gate: &G,
     log: LogName,
     last: &mut u64,

@@ -7,12 +7,12 @@ use crate::shared::Shared;
 use cw_disk::Disk;
 use cw_feed::Feeds;
 use cw_io::Outlet;
-use std::sync::Mutex;
+use std::sync::{Mutex, Wait};
 
 /// The three locks, the feeds that sources read, and how many workers and task runners there are. No thread holds two
 /// of the locks at once.
-pub struct Common<J: Begun, D: Disk, U: Outlet, C> {
-    pub shared: Mutex<Shared<J, D>>,
+pub struct Common<J: Begun, D: Disk, U: Outlet, C, W: Wait + Drop> {
+    pub shared: Mutex<Shared<J, D, W>>,
     pub outlet: Mutex<Poured<J, U>>,
     pub clock: Mutex<C>,
     pub feeds: Feeds,

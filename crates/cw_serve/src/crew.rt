@@ -81,10 +81,10 @@ impl<J: Begun, L: Link> Team<J, L> {
 }
 
 /// Starts all threads, and joins them: this ends once all links were accepted and none waits.
-pub fn work_all<J, D, U, C, G, L, R>(
+pub fn work_all<J, D, U, C, G, L, R, W>(
     rt: &R,
     alloc: Global,
-    common: &Common<J, D, U, C>,
+    common: &Common<J, D, U, C, W>,
     gate: &G,
     line: &Line<L>,
     crew: &mut Crew<J, L>,
@@ -97,6 +97,7 @@ where
     G: Gate + Sync,
     L: Link + Send + Drop,
     R: Threads + Wait + std::rt::Clock + Sync,
+    W: Wait + Drop + Send,
     requires seat { name_of line.now ≡ J.table }
     ensures { vec_len crew.new.done ≡ vec_len crew.old.waiting + vec_len crew.old.done }
 {
@@ -105,10 +106,10 @@ where
 }
 
 // The same in a scope of its own.
-fn work_in_scope<J, D, U, C, G, L, R>(
+fn work_in_scope<J, D, U, C, G, L, R, W>(
     rt: &R,
     alloc: Global,
-    common: &Common<J, D, U, C>,
+    common: &Common<J, D, U, C, W>,
     gate: &G,
     line: &Line<L>,
     crew: Crew<J, L>,
@@ -121,6 +122,7 @@ where
     G: Gate + Sync,
     L: Link + Send + Drop,
     R: Threads + Wait + std::rt::Clock + Sync,
+    W: Wait + Drop + Send,
     requires seat { name_of line.now ≡ J.table }
     ensures { vec_len result.done ≡ vec_len crew.waiting + vec_len crew.done }
 {
@@ -138,11 +140,11 @@ where
 }
 
 // Starts the herders, the task runners and the cleaner. The scope joins them.
-fn start_others<'s, E, J, D, U, C, G, R>(
+fn start_others<'s, E, J, D, U, C, G, R, W>(
     scope: &Scope<'s, E>,
     rt: &'s R,
     alloc: Global,
-    common: &'s Common<J, D, U, C>,
+    common: &'s Common<J, D, U, C, W>,
     gate: &'s G,
 )
 where
@@ -152,6 +154,7 @@ where
     C: Clock + Send + 's,
     G: Gate + Sync,
     R: Wait + std::rt::Clock + Sync,
+    W: Wait + Drop + Send + 's,
 {
     for w in 0..common.workers {
         start(scope, rt, alloc, common, gate, Job::Herder(w));
@@ -163,11 +166,11 @@ where
 }
 
 // Starts one of these threads. Where none can be made, its work is done here.
-fn start<'s, E, J, D, U, C, G, R>(
+fn start<'s, E, J, D, U, C, G, R, W>(
     scope: &Scope<'s, E>,
     rt: &'s R,
     alloc: Global,
-    common: &'s Common<J, D, U, C>,
+    common: &'s Common<J, D, U, C, W>,
     gate: &'s G,
     job: Job,
 )
@@ -178,6 +181,7 @@ where
     C: Clock + Send + 's,
     G: Gate + Sync,
     R: Wait + std::rt::Clock + Sync,
+    W: Wait + Drop + Send + 's,
 {
     if let Err(refused) = scope.spawn(move || work(rt, alloc, common, gate, job)) {
         (refused.value)();
@@ -185,10 +189,10 @@ where
 }
 
 // What such a thread does.
-fn work<J: Begun, D: Disk, U: Outlet, C: Clock, G: Gate, R: Wait + std::rt::Clock>(
+fn work<J: Begun, D: Disk, U: Outlet, C: Clock, G: Gate, R: Wait + std::rt::Clock, W: Wait + Drop>(
     rt: &R,
     alloc: Global,
-    common: &Common<J, D, U, C>,
+    common: &Common<J, D, U, C, W>,
     gate: &G,
     job: Job,
 ) {
@@ -200,11 +204,11 @@ fn work<J: Begun, D: Disk, U: Outlet, C: Clock, G: Gate, R: Wait + std::rt::Cloc
 }
 
 // Starts the handlers that wait, and joins them. Where there is no memory for that, their work is done here.
-fn start_handlers<'s, E, J, D, U, C, L, R>(
+fn start_handlers<'s, E, J, D, U, C, L, R, W>(
     scope: &Scope<'s, E>,
     rt: &'s R,
     alloc: Global,
-    common: &'s Common<J, D, U, C>,
+    common: &'s Common<J, D, U, C, W>,
     line: &'s Line<L>,
     crew: Crew<J, L>,
 ) -> Crew<J, L>
@@ -215,6 +219,7 @@ where
     C: Clock + Send + 's,
     L: Link + Send + Drop + 's,
     R: Threads + Wait + std::rt::Clock + Sync,
+    W: Wait + Drop + Send + 's,
     requires seat { name_of line.now ≡ J.table }
     ensures { vec_len result.done ≡ vec_len crew.waiting + vec_len crew.done }
 {
@@ -236,11 +241,11 @@ where
 }
 
 // Starts a thread for each handler that waits, and joins all.
-fn handle_in_threads<'s, E, J, D, U, C, L, R>(
+fn handle_in_threads<'s, E, J, D, U, C, L, R, W>(
     scope: &Scope<'s, E>,
     rt: &'s R,
     alloc: Global,
-    common: &'s Common<J, D, U, C>,
+    common: &'s Common<J, D, U, C, W>,
     line: &'s Line<L>,
     mut waiting: Vec<Handler<J, L>>,
     mut team: Team<J, L>,
@@ -252,6 +257,7 @@ where
     C: Clock + Send + 's,
     L: Link + Send + Drop + 's,
     R: Threads + Wait + std::rt::Clock + Sync,
+    W: Wait + Drop + Send + 's,
     requires seat { name_of line.now ≡ J.table }
     requires room { vec_len waiting + (vec_len team.running + vec_len team.done) ≤ team.size }
     ensures { vec_len result ≡ vec_len waiting + (vec_len team.running + vec_len team.done) }
@@ -263,11 +269,11 @@ where
 }
 
 // Starts a handler. Where no thread can be made, its work is done here.
-fn start_handler<'s, E, J, D, U, C, L, R>(
+fn start_handler<'s, E, J, D, U, C, L, R, W>(
     scope: &Scope<'s, E>,
     rt: &'s R,
     alloc: Global,
-    common: &'s Common<J, D, U, C>,
+    common: &'s Common<J, D, U, C, W>,
     line: &'s Line<L>,
     handler: Handler<J, L>,
     team: &mut Team<J, L>,
@@ -279,6 +285,7 @@ where
     C: Clock + Send + 's,
     L: Link + Send + Drop + 's,
     R: Wait + std::rt::Clock + Sync,
+    W: Wait + Drop + Send + 's,
     requires seat { name_of line.now ≡ J.table }
     requires room { vec_len team.old.running + vec_len team.old.done < team.old.size }
     ensures size { team.new.size ≡ team.old.size }
@@ -300,10 +307,10 @@ where
 }
 
 // Does the work of all handlers here, one behind the other.
-fn handle_here<J, D, U, C, L, R>(
+fn handle_here<J, D, U, C, L, R, W>(
     rt: &R,
     alloc: Global,
-    common: &Common<J, D, U, C>,
+    common: &Common<J, D, U, C, W>,
     line: &Line<L>,
     mut waiting: Vec<Handler<J, L>>,
     mut done: Vec<Handler<J, L>>,
@@ -314,6 +321,7 @@ where
     U: Outlet,
     L: Link + Drop,
     R: Wait + std::rt::Clock,
+    W: Wait + Drop,
     requires seat { name_of line.now ≡ J.table }
     requires room { vec_len waiting + vec_len done ≤ vec_capacity done }
     ensures { vec_len result ≡ vec_len waiting + vec_len done }

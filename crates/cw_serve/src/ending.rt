@@ -66,10 +66,10 @@ pub fn absorb_all<J: Begun, L: Link>(
 }
 
 /// Serves the links that no handler took, each in one connection. Then each link that was pushed was taken once.
-pub fn serve_left<J: Begun, D: Disk, U: Outlet, C, L: Link + Drop, R: Wait>(
+pub fn serve_left<J: Begun, D: Disk, U: Outlet, C, L: Link + Drop, R: Wait, W: Wait + Drop>(
     rt: &R,
     alloc: Global,
-    common: &Common<J, D, U, C>,
+    common: &Common<J, D, U, C, W>,
     line: &Line<L>,
     acceptor: &mut Acceptor<J, L>,
     own: Kept<J>,
@@ -145,6 +145,8 @@ fn take_in<J: Begun>(
     let Kept {
         mut receipts,
         share,
+        board: _,
+        least: _,
     } = kept;
     rest.merge(share);
     book.audit(rest);
@@ -167,10 +169,10 @@ fn compared<D: Disk>(world: &World<D>, receipts: Vec<Receipt>) -> Result<Vec<Rec
 
 /// Ends the line: each link that was pushed is then taken once, and served in one connection. It gives what all
 /// handlers and this thread kept.
-pub fn end_line<J: Begun, D: Disk, U: Outlet, C, L: Link + Drop, R: Wait>(
+pub fn end_line<J: Begun, D: Disk, U: Outlet, C, L: Link + Drop, R: Wait, W: Wait + Drop>(
     rt: &R,
     alloc: Global,
-    common: &Common<J, D, U, C>,
+    common: &Common<J, D, U, C, W>,
     line: &Line<L>,
     acceptor: &mut Acceptor<J, L>,
     crew: Crew<J, L>,
@@ -194,9 +196,9 @@ pub fn end_line<J: Begun, D: Disk, U: Outlet, C, L: Link + Drop, R: Wait>(
 }
 
 /// Gives all back, and says why the server ended.
-pub fn finish<J: Begun, D: Disk, U: Outlet, C: Drop, N>(
+pub fn finish<J: Begun, D: Disk, U: Outlet, C: Drop, N, W: Wait + Drop>(
     alloc: Global,
-    common: Common<J, D, U, C>,
+    common: Common<J, D, U, C, W>,
     rest: Share<J>,
     books: Vec<Kept<J>>,
     net: N,

@@ -4,7 +4,7 @@ ghost use Rattle.cw_line.specs.Sides.{name_of};
 ghost use Rattle.cw_serve.specs.Talking.{Serves, entries_in};
 
 use crate::common::Common;
-use crate::desk::LockDesk;
+use crate::desk::{Asked, LockDesk};
 use crate::kept::Kept;
 use crate::naming::Begun;
 use cw_conn::serve_conn;
@@ -39,10 +39,18 @@ impl<J: Begun, L: Link> Model for Handler<J, L> {
 }
 
 /// Serves links until all were accepted and none waits. It sleeps for a millisecond where none waits.
-pub fn handle<J: Begun, D: Disk, U: Outlet, C, L: Link + Drop, R: Wait + std::rt::Clock>(
+pub fn handle<
+    J: Begun,
+    D: Disk,
+    U: Outlet,
+    C,
+    L: Link + Drop,
+    R: Wait + std::rt::Clock,
+    W: Wait + Drop,
+>(
     rt: &R,
     alloc: Global,
-    common: &Common<J, D, U, C>,
+    common: &Common<J, D, U, C, W>,
     line: &Line<L>,
     handler: Handler<J, L>,
 ) -> Handler<J, L>
@@ -68,10 +76,10 @@ pub fn handle<J: Begun, D: Disk, U: Outlet, C, L: Link + Drop, R: Wait + std::rt
 }
 
 /// Serves a link through the worker that its number picks: one connection, by whose entries the receipts grow.
-pub fn serve_link<J: Begun, D: Disk, U: Outlet, C, L: Link + Drop, R: Wait>(
+pub fn serve_link<J: Begun, D: Disk, U: Outlet, C, L: Link + Drop, R: Wait, W: Wait + Drop>(
     rt: &R,
     alloc: Global,
-    common: &Common<J, D, U, C>,
+    common: &Common<J, D, U, C, W>,
     ticket: Ticket<L>,
     kept: Kept<J>,
 ) -> Kept<J>
@@ -83,7 +91,7 @@ pub fn serve_link<J: Begun, D: Disk, U: Outlet, C, L: Link + Drop, R: Wait>(
         alloc,
         lock: &common.shared,
         kept,
-        worker: (number % u64::from(common.workers)) as u32,
+        worker: Asked::new((number % u64::from(common.workers)) as u32),
     };
     serve_conn(alloc, &mut link, &mut desk);
     let LockDesk {

@@ -13,13 +13,15 @@ use std::time::Duration;
 
 /// Lets a worker's herder tick until the server ends. It calls the gate behind each tick that did something, and sleeps
 /// for a millisecond where there is nothing to do.
-pub fn herd<J: Begun, D: Disk, U: Outlet, C: Clock, G: Gate, R: Wait + std::rt::Clock>(
-    rt: &R,
-    alloc: Global,
-    common: &Common<J, D, U, C>,
-    gate: &G,
-    w: u32,
-) {
+pub fn herd<
+    J: Begun,
+    D: Disk,
+    U: Outlet,
+    C: Clock,
+    G: Gate,
+    R: Wait + std::rt::Clock,
+    W: Wait + Drop,
+>(rt: &R, alloc: Global, common: &Common<J, D, U, C, W>, gate: &G, w: u32) {
     for _ in rt.forever() {
         let now = common.clock.lock(rt).now();
         let herded = common.shared.lock(rt).herd(alloc, w, now);

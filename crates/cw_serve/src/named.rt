@@ -16,6 +16,7 @@ use crate::outlet::Poured;
 use crate::shared::Shared;
 use crate::sizes::Sizes;
 use crossbeam_queue::Pass;
+use cw_board::{History, open_board};
 use cw_disk::Disk;
 use cw_feed::Feeds;
 use cw_io::Outlet;
@@ -60,7 +61,7 @@ pub fn unserved<D: Disk, U: Outlet, N: Listener>(
     }
 }
 
-/// Serves under the names of this ledger, this line, and this start.
+/// Serves under the names of this ledger, this line, this board, and this start.
 pub fn serve_named<J, R, D, U, N, C, G>(
     rt: &R,
     alloc: Global,
@@ -69,6 +70,7 @@ pub fn serve_named<J, R, D, U, N, C, G>(
     blank: Blank,
     line: &Line<N::Link>,
     pass: Pass<Ticket<N::Link>, Hand<N::Link>>,
+    history: History,
 ) -> Served<D, U, N>
 where
     J: Begun + Send + Sync,
@@ -80,6 +82,7 @@ where
     R: Threads + Wait + std::rt::Clock + Sync,
     requires ledger { (blank.name ≡ J.name) × (blank.parts ≡ J.parts) × (J.parts ≡ given.sizes.handlers + 2) }
     requires line { (name_of line.now ≡ J.table) × IsFirstOf J.table pass }
+    requires history { history.seen.book ≡ J.book }
     requires goes_on { GoesOn D.Disk J.start given.world }
     requires workers { (given.sizes.workers ≡ J.workers) × (given.world.state.rows ≡ []) }
     requires fresh { (given.world.state.journal ≡ []) × (given.world.state.closed ≡ None) }
@@ -103,15 +106,20 @@ where
     let mut world = world;
     let mut net = net;
     let begun = begin(&mut world, sizes.workers);
+    let opened = open_board::<J, &R>(alloc, rt, history, sizes.workers, sizes.handlers);
+    let (Ok(()), Ok((board, boards))) = (begun, opened) else {
+        return unserved(alloc, world, outlet, net);
+    };
     let ready = prepare(
         alloc,
         line,
         &mut acceptor,
         &mut rest,
+        boards,
         sizes.workers,
         sizes.handlers,
     );
-    let (Ok(()), Ok(ready)) = (begun, ready) else {
+    let Ok(ready) = ready else {
         return unserved(alloc, world, outlet, net);
     };
     let Ready {
@@ -119,9 +127,10 @@ where
         own,
         books,
         moments,
+        given,
     } = ready;
     let common = Common {
-        shared: Mutex::new(Shared::new(alloc, world, book, moments)),
+        shared: Mutex::new(Shared::new(alloc, world, book, moments, board, given)),
         outlet: Mutex::new(Poured::new(outlet)),
         clock: Mutex::new(clock),
         feeds,

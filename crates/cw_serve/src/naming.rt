@@ -1,11 +1,13 @@
 //! What was so before the threads.
+use cw_board::BoardNaming;
 use cw_line::Seat;
 use std::marker::Brand;
 use std::sync::ledger::Ledger;
 
-/// What was so before the threads began, and which ledger and line are theirs. What lies under the locks has it in its
-/// type, so that it is known behind the joins. Each call of a program picks it.
-pub trait Begun: Ledger + Seat {
+/// What was so before the threads began, and which ledger, line and board are theirs; the board names the number of
+/// workers. What lies under the locks has it in its type, so that it is known behind the joins. Each call of a program
+/// picks it.
+pub trait Begun: Ledger + Seat + BoardNaming {
     ghost use Rattle.std.specs.Prelude.{ℕ};
     ghost use Rattle.cw_turns.specs.Going.{Start};
 
@@ -14,9 +16,6 @@ pub trait Begun: Ledger + Seat {
 
     /// How many calls of the outlet had failed.
     ghost faults: { ℕ };
-
-    /// How many workers there are.
-    ghost workers: { ℕ };
 }
 
 impl Begun for Brand {
@@ -25,6 +24,4 @@ impl Begun for Brand {
     ghost start = { no_start };
 
     ghost faults = { 0 };
-
-    ghost workers = { 0 };
 }

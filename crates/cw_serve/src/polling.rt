@@ -15,6 +15,7 @@ use cw_sourcetask::batches_take_some;
 use cw_tasks::waits;
 use cw_world::World;
 use std::alloc::{AllocError, Global};
+use std::sync::Wait;
 
 /// What a runner does next with an instance.
 #[derive(Clone, Copy, Debug, PartialEq, Eq, Drop)]
@@ -44,7 +45,7 @@ pub enum Gathered {
     Found(Delivery),
 }
 
-impl<J: Begun, D: Disk> Shared<J, D> {
+impl<J: Begun, D: Disk, W: Wait + Drop> Shared<J, D, W> {
     /// How many instances there are; None where the server ends.
     pub fn instances(&self) -> Option<u64> {
         if self.goes_on() {

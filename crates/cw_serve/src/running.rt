@@ -25,10 +25,10 @@ enum Passed {
 
 /// Steps the instances of a runner, pass by pass, until the server ends. It calls the gate before each poll and behind
 /// each step that was answered, and sleeps for a millisecond behind a pass in which no step did anything.
-pub fn run<J: Begun, D: Disk, U: Outlet, C, G: Gate, R: Wait + std::rt::Clock>(
+pub fn run<J: Begun, D: Disk, U: Outlet, C, G: Gate, R: Wait + std::rt::Clock, W: Wait + Drop>(
     rt: &R,
     alloc: Global,
-    common: &Common<J, D, U, C>,
+    common: &Common<J, D, U, C, W>,
     gate: &G,
     runner: u32,
 ) {
@@ -42,10 +42,10 @@ pub fn run<J: Begun, D: Disk, U: Outlet, C, G: Gate, R: Wait + std::rt::Clock>(
 }
 
 // One pass over the instances of a runner.
-fn pass<J: Begun, D: Disk, U: Outlet, C, G: Gate, R: Wait>(
+fn pass<J: Begun, D: Disk, U: Outlet, C, G: Gate, R: Wait, W: Wait + Drop>(
     rt: &R,
     alloc: Global,
-    common: &Common<J, D, U, C>,
+    common: &Common<J, D, U, C, W>,
     gate: &G,
     runner: u32,
 ) -> Passed {
@@ -67,18 +67,18 @@ fn pass<J: Begun, D: Disk, U: Outlet, C, G: Gate, R: Wait>(
 }
 
 // How many instances there are; None where the server ends.
-fn instances<J: Begun, D: Disk, U: Outlet, C, R: Wait>(
+fn instances<J: Begun, D: Disk, U: Outlet, C, R: Wait, W: Wait + Drop>(
     rt: &R,
-    common: &Common<J, D, U, C>,
+    common: &Common<J, D, U, C, W>,
 ) -> Option<u64> {
     common.shared.lock(rt).instances()
 }
 
 // One step of an instance.
-fn visit<J: Begun, D: Disk, U: Outlet, C, G: Gate, R: Wait>(
+fn visit<J: Begun, D: Disk, U: Outlet, C, G: Gate, R: Wait, W: Wait + Drop>(
     rt: &R,
     alloc: Global,
-    common: &Common<J, D, U, C>,
+    common: &Common<J, D, U, C, W>,
     gate: &G,
     runner: u32,
     i: u64,
@@ -112,10 +112,10 @@ fn visit<J: Begun, D: Disk, U: Outlet, C, G: Gate, R: Wait>(
 }
 
 // A source's poll: its feeds are scanned outside the lock.
-fn poll_source<J: Begun, D: Disk, U: Outlet, C, R: Wait>(
+fn poll_source<J: Begun, D: Disk, U: Outlet, C, R: Wait, W: Wait + Drop>(
     rt: &R,
     alloc: Global,
-    common: &Common<J, D, U, C>,
+    common: &Common<J, D, U, C, W>,
     i: u64,
 ) -> Stepped {
     let copy = common.shared.lock(rt).copy_polling(alloc, i);
@@ -132,10 +132,10 @@ fn poll_source<J: Begun, D: Disk, U: Outlet, C, R: Wait>(
 }
 
 // A sink's poll: what it gathers is put into its file under the outlet's lock alone.
-fn poll_sink<J: Begun, D: Disk, U: Outlet, C, R: Wait>(
+fn poll_sink<J: Begun, D: Disk, U: Outlet, C, R: Wait, W: Wait + Drop>(
     rt: &R,
     alloc: Global,
-    common: &Common<J, D, U, C>,
+    common: &Common<J, D, U, C, W>,
     i: u64,
 ) -> Stepped {
     let gathered = common.shared.lock(rt).gather(alloc, i);
@@ -147,9 +147,9 @@ fn poll_sink<J: Begun, D: Disk, U: Outlet, C, R: Wait>(
 }
 
 // A delivery is put into its file, and the world then knows it.
-fn hand_out<J: Begun, D: Disk, U: Outlet, C, R: Wait>(
+fn hand_out<J: Begun, D: Disk, U: Outlet, C, R: Wait, W: Wait + Drop>(
     rt: &R,
-    common: &Common<J, D, U, C>,
+    common: &Common<J, D, U, C, W>,
     i: u64,
     delivery: &Delivery,
 ) -> Stepped {

@@ -14,6 +14,7 @@ ghost use Rattle.cw_serve.specs.Talking.{HaveTalked};
 use crate::ends::{ServeEnd, Served};
 use crate::named::{Given, serve_named, unserved};
 use crate::sizes::Sizes;
+use cw_board::History;
 use cw_disk::Disk;
 use cw_feed::Feeds;
 use cw_io::Outlet;
@@ -84,5 +85,14 @@ where
         net,
         clock,
     };
-    serve_named::<Brand, R, D, U, N, C, G>(rt, alloc, given, gate, blank, &line, pass)
+    serve_named::<Brand, R, D, U, N, C, G>(
+        rt,
+        alloc,
+        given,
+        gate,
+        blank,
+        &line,
+        pass,
+        History::new(),
+    )
 }

@@ -1,13 +1,16 @@
 //! What lies under the lock.
-ghost use Rattle.std.specs.Prelude.{◌≡◌, ◌<◌, ◌≤◌, ℕ, [], true, length, None, vec_len, vec_capacity};
+ghost use Rattle.std.specs.Prelude.{◌≡◌, ◌<◌, ◌≤◌, ℕ, [], true, length, replicate, None, vec_len, vec_capacity};
 ghost use Rattle.cw_model.specs.Lookups.{row_of};
 ghost use Rattle.cw_turns.specs.Going.{GoesOn};
 
 use crate::naming::Begun;
+use crate::publishing::publish_read;
+use cw_board::BoardWriter;
 use cw_disk::Disk;
 use cw_world::{Receipt, World};
 use std::alloc::Global;
 use std::marker::Model;
+use std::sync::Wait;
 use std::sync::ledger::Book;
 
 /// What made a herder, a task runner or the cleaner stop all of them.
@@ -18,20 +21,26 @@ pub enum Stop {
 }
 
 /// The world, the book that counts its journal, room for a receipt of each entry, when each worker ticked last, the
-/// mark that all links were accepted, and the first stop. Clauses see the world, which goes on from where it began.
+/// mark that all links were accepted, and the first stop; beside them the board's writer, how many records of the config
+/// log were given to the board for each worker, and the mark that some of these aren't published yet. Clauses see the
+/// world, which goes on from where it began.
 #[derive(Drop)]
-pub struct Shared<J: Begun, D: Disk> {
+pub struct Shared<J: Begun, D: Disk, W: Wait + Drop> {
     pub(crate) world: World<D>,
     pub(crate) book: Book<J>,
     pub(crate) room: Vec<Receipt>,
     pub(crate) moments: Vec<u64>,
     pub(crate) ended: bool,
     pub(crate) stop: Option<Stop>,
+    pub(crate) board: BoardWriter<J, W>,
+    pub(crate) given: Vec<u64>,
+    pub(crate) lacks: bool,
 }
 
-impl<J: Begun, D: Disk> Model for Shared<J, D> {
+impl<J: Begun, D: Disk, W: Wait + Drop> Model for Shared<J, D, W> {
     ghost use Rattle.std.specs.Prelude.{vec_len, vec_capacity};
     ghost use Rattle.cw_world.specs.World.{WorldState};
+    ghost use Rattle.cw_serve.specs.Boarding.{IsBoarded};
     ghost use Rattle.cw_serve.specs.Sharing.{IsShared, HasRoom};
 
     ghost Value = { WorldState D };
@@ -39,7 +48,8 @@ impl<J: Begun, D: Disk> Model for Shared<J, D> {
     ghost view = { λ s. s.world };
 
     ghost invariant = { λ s. IsShared D.Disk J.start J.workers s.book.total s.world ×
-        HasRoom s.world.state (vec_len s.room) (vec_capacity s.room) };
+        HasRoom s.world.state (vec_len s.room) (vec_capacity s.room) ×
+        IsBoarded J.workers s.board s.given.items s.lacks s.world.state };
 }
 
 /// What is left of it.
@@ -51,12 +61,21 @@ pub struct Left<J: Begun, D: Disk> {
     pub stop: Option<Stop>,
 }
 
-impl<J: Begun, D: Disk> Shared<J, D> {
+impl<J: Begun, D: Disk, W: Wait + Drop> Shared<J, D, W> {
     /// Before the threads.
-    pub fn new(alloc: Global, world: World<D>, book: Book<J>, moments: Vec<u64>) -> Shared<J, D>
+    pub fn new(
+        alloc: Global,
+        world: World<D>,
+        book: Book<J>,
+        moments: Vec<u64>,
+        board: BoardWriter<J, W>,
+        given: Vec<u64>,
+    ) -> Shared<J, D, W>
         requires goes_on { GoesOn D.Disk J.start world }
         requires live { (w : ℕ) → w < J.workers → (row_of w world.state).live ≡ true }
         requires journal { (world.state.journal ≡ []) × (book.total ≡ 0) }
+        requires board { (board.published ≡ []) × (board.given ≡ []) }
+        requires given { given.items ≡ replicate J.workers 0 }
     {
         Shared {
             world,
@@ -65,6 +84,9 @@ impl<J: Begun, D: Disk> Shared<J, D> {
             moments,
             ended: false,
             stop: None,
+            board,
+            given,
+            lacks: false,
         }
     }
 
@@ -97,6 +119,27 @@ impl<J: Begun, D: Disk> Shared<J, D> {
         }
     }
 
+    /// Publishes what a worker has read of the config log, and what wasn't published before, as far as there is memory.
+    /// It waits for the views that are out.
+    pub fn publish(&mut self, alloc: Global, w: u32)
+        ensures { self.new ≡ self.old }
+    {
+        let Shared {
+            world,
+            book: _,
+            room: _,
+            moments: _,
+            ended: _,
+            stop: _,
+            board,
+            given,
+            lacks,
+        } = self;
+        if (w as usize) < given.len() {
+            *lacks = publish_read(alloc, world, board, given, *lacks, w);
+        }
+    }
+
     /// What is known of it behind the joins.
     pub fn into_left(self) -> Left<J, D>
         ensures world { result.world ≡ self }
@@ -111,7 +154,11 @@ impl<J: Begun, D: Disk> Shared<J, D> {
             moments: _,
             ended: _,
             stop,
+            board,
+            given: _,
+            lacks: _,
         } = self;
+        drop(board);
         Left {
             world,
             book,

@@ -13,6 +13,7 @@ use cw_feed::CutAnswer;
 use cw_model::{Did, Instance, WorldFault};
 use cw_sinktask::Delivery;
 use cw_ticks::parts_of;
+use std::sync::Wait;
 
 /// What a task's step came to.
 #[derive(Clone, Copy, Debug, PartialEq, Eq, Drop)]
@@ -25,7 +26,7 @@ pub enum Stepped {
     Done,
 }
 
-impl<J: Begun, D: Disk> Shared<J, D> {
+impl<J: Begun, D: Disk, W: Wait + Drop> Shared<J, D, W> {
     /// An instance takes a step that isn't a poll.
     pub fn step(&mut self, i: u64) -> Stepped
         ensures { KeepsJournal self.old.state self.new.state }
@@ -33,6 +34,7 @@ impl<J: Begun, D: Disk> Shared<J, D> {
         if !matches!(self.work_of(i), Work::Step) {
             return Stepped::Refused;
         }
+        self.world.is_safe();
         let did = cw_turns::step(&mut self.world, i);
         after_step(&mut self.stop, did)
     }
@@ -48,6 +50,7 @@ impl<J: Begun, D: Disk> Shared<J, D> {
         if !fits(self.world.cluster().instance_of(i), found, turn) {
             return Stepped::Refused;
         }
+        self.world.is_safe();
         let did = cw_turns::step_found(&mut self.world, i, found, turn);
         after_step(&mut self.stop, did)
     }
@@ -59,6 +62,7 @@ impl<J: Begun, D: Disk> Shared<J, D> {
         if !matches!(self.work_of(i), Work::Gather) {
             return Stepped::Refused;
         }
+        self.world.is_safe();
         if cw_turns::deliver(&mut self.world, i, delivery) {
             Stepped::Done
         } else {

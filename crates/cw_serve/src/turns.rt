@@ -11,6 +11,7 @@ use cw_rows::Cluster;
 use cw_types::LogName;
 use cw_world::World;
 use std::alloc::Global;
+use std::sync::Wait;
 
 // How long a member may be without a tick, in milliseconds (Kafka Connect's session.timeout.ms).
 const SESSION: u64 = 10_000;
@@ -42,15 +43,26 @@ pub enum Cleaned {
     Compacted(u64),
 }
 
-impl<J: Begun, D: Disk> Shared<J, D> {
+impl<J: Begun, D: Disk, W: Wait + Drop> Shared<J, D, W> {
     /// A herder's turn: the group lets a member go whose last tick is too long ago; else the worker ticks. A herder that
-    /// comes too late itself, as all do where the process stood still, judges nobody by what was before.
+    /// comes too late itself, as all do where the process stood still, judges nobody by what was before. What the worker
+    /// has read of the config log is published then.
     pub fn herd(&mut self, alloc: Global, w: u32, now: u64) -> Herded
+        ensures { KeepsJournal self.old.state self.new.state }
+    {
+        let herded = self.tick(alloc, w, now);
+        self.publish(alloc, w);
+        herded
+    }
+
+    // The same, before what the worker has read is published.
+    fn tick(&mut self, alloc: Global, w: u32, now: u64) -> Herded
         ensures { KeepsJournal self.old.state self.new.state }
     {
         if !self.goes_on() || !self.world.cluster().has_worker(w) {
             return Herded::Over;
         }
+        self.world.is_safe();
         note(&mut self.moments, w, now);
         if let Some(member) = late_member(self.world.cluster(), &self.moments, now) {
             return after_expiry(cw_turns::expire(&mut self.world, member, now));
@@ -71,6 +83,7 @@ impl<J: Begun, D: Disk> Shared<J, D> {
         if bytes < WORTH_COMPACTING || bytes / 2 < last {
             return Cleaned::Idle;
         }
+        self.world.is_safe();
         let compacted = cw_turns::compact(&mut self.world, log);
         after_compaction(&mut self.stop, &self.world, log, compacted)
     }

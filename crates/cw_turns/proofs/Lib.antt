@@ -5,3 +5,4 @@ pub mod Scanned
 pub mod Leaving
 pub mod Spawned
 pub mod Delivered
+pub mod Journaled

@@ -15,6 +15,7 @@ mod delivering;
 mod giving_back;
 mod herding;
 mod naming;
+mod seen;
 mod stepping;
 
 pub use answering::answer;
@@ -22,4 +23,5 @@ pub use beginning::begin;
 pub use delivering::deliver;
 pub use giving_back::give_back;
 pub use herding::{compact, expire, herd};
+pub use seen::keep_seen;
 pub use stepping::{step, step_found};

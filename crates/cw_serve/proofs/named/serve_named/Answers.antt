@@ -12,6 +12,13 @@ returns-in_default-clause-goes_on g c = subst (GoesOn g.D.Disk g.J.Begun.start) 
 pub returns-in_default-clause-served : goal.returns-in_default-clause-served
 returns-in_default-clause-served g c = c.unserved.ensures.served c.args.given.sizes.conns
 
+pub returns-in_default-ready-clause-goes_on : goal.returns-in_default-ready-clause-goes_on
+returns-in_default-ready-clause-goes_on g c = subst (GoesOn g.D.Disk g.J.Begun.start) (sym c.unserved-in_default-ready.ensures.world)
+    (c.begin-begun.ensures.goes_on g.J.Begun.start c.requires.goes_on)
+
+pub returns-in_default-ready-clause-served : goal.returns-in_default-ready-clause-served
+returns-in_default-ready-clause-served g c = c.unserved-in_default-ready.ensures.served c.args.given.sizes.conns
+
 pub new-requires-clause-goes_on : goal.new-requires-clause-goes_on
 new-requires-clause-goes_on g c = c.begin-begun.ensures.goes_on g.J.Begun.start c.requires.goes_on
 

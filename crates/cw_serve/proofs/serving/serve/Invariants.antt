@@ -12,5 +12,7 @@ abbrev pub ghosts-serve_named-J-Begun : goal.ghosts-serve_named-J-Begun
 ghosts-serve_named-J-Begun g a = record {
   start = start_of g.D.Disk a.given.world;
   faults = g.U.Outlet.faults a.given.outlet;
-  workers = a.given.sizes.workers;
 }
+
+abbrev pub ghosts-serve_named-J-BoardNaming : goal.ghosts-serve_named-J-BoardNaming
+ghosts-serve_named-J-BoardNaming g a = record { book = a.history.seen.book; workers = a.given.sizes.workers }

@@ -1,5 +1,8 @@
+use Rattle.std.proofs.Common.{◌≡◌, rules, None}
 use Rattle.cw_serve.proofs.Keeping.{stays_shared}
 use Rattle.cw_serve.proofs.shared.Shared.clean.Goals as goal
 
 pub invariant_of-self : goal.invariant_of-self
-invariant_of-self g c = stays_shared c.self.invariant (c.compact-compacted.ensures.goes_on g.J.Begun.start) c.compact-compacted.ensures.kept
+invariant_of-self g c =
+    let alive : c.self.inside.world.state.closed ≡ None = search rules in
+    stays_shared c.self.invariant alive c.is_safe.ensures.facts c.compact-compacted.ensures.goes_on c.compact-compacted.ensures.kept
