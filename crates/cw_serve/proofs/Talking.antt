@@ -1,6 +1,8 @@
 -- Connections over links, one more and two lists of them together; and the receipts that they left, in whatever order.
-use Rattle.std.proofs.Common.{◌≡◌, ℕ, List, [], ◌∷◌, ◌++◌, Option, Result, Ok, Err, IfOk, length, refl, sym, ap, ◌∙◌, append_assoc, subst, arith}
-use Rattle.std.specs.List.{AllByRecursion, flat_map}
+use Rattle.std.proofs.Common.{◌≡◌, ℕ, suc, List, [], ◌∷◌, ◌++◌, map, Option, Result, Ok, Err, IfOk, length, refl, sym, ap, ◌∙◌, append_assoc, subst, arith}
+use Rattle.std.specs.List.{AllByRecursion, AllPairs, flat_map}
+use Rattle.std.proofs.lemmas.List.Elements.{All-map}
+use Rattle.std.proofs.lemmas.List.Kept.{AllPairs-cons}
 use Rattle.std.specs.List.Sorted.{IsPermutation}
 use Rattle.std.proofs.lemmas.Grind.{flat_map-append}
 use Rattle.std.proofs.lemmas.List.{append-nil, flat_map_more, map-append}
@@ -14,22 +16,40 @@ use Rattle.cw_line.specs.Numbers.{IsEachOnce}
 use Rattle.cw_model.specs.declared.journal.JournalEntry.{JournalEntry}
 use Rattle.cw_net.specs.declared.listener.Listener as listener
 use Rattle.cw_world.specs.Receipts.{ReceiptState}
+use Rattle.cw_serve.specs.Following.{GoesOnFrom}
 use Rattle.cw_serve.specs.Talking.{AreTalks, HaveTalked, IsTalk, Serves, Talk, entries_in}
+
+-- ---- pairs
+
+-- what is so of each pair of a list is so of its end
+pairs_back : {X : Type 0} (R : X → X → Type 0) (xs ys : List X) → AllPairs R (xs ++ ys) → AllPairs R ys
+pairs_back R [] ys pairs = pairs
+pairs_back R (x ∷ xs) ys pairs = pairs_back R xs ys (λ i j d lt within. pairs (suc i) (suc j) d (omega arith) (omega arith))
+
+-- and of what its members show
+pub pairs_shown : {X Y : Type 0} (f : X → Y) (R : Y → Y → Type 0) (xs : List X) → AllPairs (λ x y. R (f x) (f y)) xs → AllPairs R (map f xs)
+pairs_shown f R [] pairs = λ i j d lt within. absurd (omega arith)
+pairs_shown f R (x ∷ xs) pairs =
+    AllPairs-cons R (f x) (map f xs) (All-map (R (f x)) f xs (λ k d within. pairs 0 (suc k) d (omega arith) (omega arith)))
+    (pairs_shown f R xs (λ i j d lt within. pairs (suc i) (suc j) d (omega arith) (omega arith)))
 
 -- ---- one connection
 
 -- what a desk answered behind other entries, it answered
 pub served : {L : Type 0} (I : link.Ghosts L) (ticket : Ticket L) (end : ConnEnd) (left_now held_now : Option (List ℕ)) (before behind : List JournalEntry)
-    → Talked 0 end (moment (I.left ticket.link) (I.held ticket.link) before) (moment left_now held_now behind) → Serves I ticket before behind
-served I ticket end left_now held_now before behind talked = record {
+    → Talked 0 end (moment (I.left ticket.link) (I.held ticket.link) before) (moment left_now held_now behind) → AllPairs GoesOnFrom behind → Serves I ticket before behind
+served I ticket end left_now held_now before behind talked follow = record {
   talk = record { ticket = ticket; end = end; behind = moment left_now held_now (entries_of talked.exchanges) };
   is = record {
-    exchanges = talked.exchanges;
-    unanswered = talked.unanswered;
-    read = talked.read;
-    calls = talked.calls;
-    grew = refl;
-    ends = talked.ends;
+    talked = record {
+      exchanges = talked.exchanges;
+      unanswered = talked.unanswered;
+      read = talked.read;
+      calls = talked.calls;
+      grew = refl;
+      ends = talked.ends;
+    };
+    follow = pairs_back GoesOnFrom before (entries_of talked.exchanges) (subst (AllPairs GoesOnFrom) talked.grew follow);
   };
   ticket_is = refl;
   grew = talked.grew;

@@ -11,6 +11,10 @@ pub record Covers (count : ℕ) (e : JournalEntry) : Type 0 where
   pub read : is_reading (deed_of e.call) ≡ true → e.prefix ≤ count
   pub wrote : WroteConfigs e → e.prefix < count
 
--- a call that was answered from the board goes on behind an earlier one
+-- an entry that was read from the board doesn't go back behind an earlier one
+abbrev pub GoesOnFrom : JournalEntry → JournalEntry → Type 0
+GoesOnFrom earlier later = later.board ≡ true → Covers later.prefix earlier
+
+-- nor does the entry of a receipt
 abbrev pub Follows : ReceiptState → ReceiptState → Type 0
-Follows earlier later = later.entry.board ≡ true → Covers later.entry.prefix earlier.entry
+Follows earlier later = GoesOnFrom earlier.entry later.entry

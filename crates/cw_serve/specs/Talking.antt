@@ -1,7 +1,7 @@
 -- What is said on the links that a server accepts: over each link there is one connection, and the entries of all
 -- connections together are those of the receipts (RFC 9112, 9.3). That links are numbered is this project's own rule.
 use Rattle.std.specs.Prelude.{◌≡◌, List, [], ◌++◌, map}
-use Rattle.std.specs.List.{AllByRecursion, flat_map}
+use Rattle.std.specs.List.{AllByRecursion, AllPairs, flat_map}
 use Rattle.std.specs.List.Sorted.{IsPermutation}
 use Rattle.cw_conn.specs.Talked.{Moment, moment, Talked}
 use Rattle.cw_conn.specs.declared.ends.ConnEnd.{ConnEnd}
@@ -11,6 +11,7 @@ use Rattle.cw_line.specs.Numbers.{IsEachOnce}
 use Rattle.cw_model.specs.declared.journal.JournalEntry.{JournalEntry}
 use Rattle.cw_net.specs.declared.listener.Listener as listener
 use Rattle.cw_world.specs.Receipts.{ReceiptState}
+use Rattle.cw_serve.specs.Following.{GoesOnFrom}
 
 -- the entries of receipts
 abbrev pub entries_in : List ReceiptState → List JournalEntry
@@ -29,9 +30,11 @@ module _ {L : Type 0} (I : link.Ghosts L) where
   first_moment ticket = moment (I.left ticket.link) (I.held ticket.link) []
 
   -- its requests stand in order at the front of the bytes that the peer sent when the link was accepted, each is
-  -- answered by one entry, and what is written are these entries' replies and at most one refusal
-  abbrev pub IsTalk : Talk L → Type 0
-  IsTalk talk = Talked 0 talk.end (first_moment talk.ticket) talk.behind
+  -- answered by one entry, and what is written are these entries' replies and at most one refusal; no entry that was
+  -- read from the board goes back behind an earlier one
+  pub record IsTalk (talk : Talk L) : Type 0 where
+    pub talked : Talked 0 talk.end (first_moment talk.ticket) talk.behind
+    pub follow : AllPairs GoesOnFrom talk.behind.entries
 
   -- connections over these links, answered by these entries
   pub record AreTalks (tickets : List (Ticket L)) (entries : List JournalEntry) : Type 0 where
