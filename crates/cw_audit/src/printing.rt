@@ -16,7 +16,7 @@ use crate::parts::write_parts;
 use cw_disk::Disk;
 use cw_log::BodyLog;
 use cw_open::{FramesRead, JudgedDisks};
-use cw_rows::{Sides, Topics};
+use cw_topics::{Sides, Topics};
 use cw_types::{LogName, Name};
 use std::alloc::{AllocError, Global};
 

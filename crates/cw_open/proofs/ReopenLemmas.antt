@@ -25,7 +25,7 @@ use Rattle.cw_laws.proofs.Framed.{unframed}
 use Rattle.cw_laws.proofs.Lists.{each_from-weaker}
 use Rattle.cw_laws.proofs.OpenLogs.{configs-allowed}
 use Rattle.cw_laws.proofs.Opens.{opens}
-use Rattle.cw_rows.specs.Kept.{TopicsState}
+use Rattle.cw_topics.specs.Topics.{TopicsState}
 use Rattle.cw_rows.specs.Opened.{opened_of}
 use Rattle.cw_world.specs.Logs.{HoldAll, HoldsList, LogsState, LogView, view_in}
 use Rattle.cw_world.specs.World.{WorldState}

@@ -7,7 +7,7 @@ ghost use Rattle.cw_model.specs.Lookups.{row_of, last_epoch};
 ghost use Rattle.cw_model.specs.Updates.{epoch_in};
 ghost use Rattle.cw_rest.specs.Calls.{deed_of, is_reading};
 ghost use Rattle.cw_edges.specs.Requests.{seen_now};
-ghost use Rattle.cw_rows.specs.Statuses.{plain};
+ghost use Rattle.cw_topics.specs.Statuses.{plain};
 ghost use Rattle.cw_reply.specs.View.{seen_in};
 
 use cw_config::ConfigState;

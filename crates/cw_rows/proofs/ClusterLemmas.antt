@@ -9,7 +9,8 @@ use Rattle.cw_config.specs.Compaction.{AreAccepted}
 use Rattle.cw_model.specs.declared.row.Row.{Row}
 use Rattle.cw_model.specs.Lookups.{no_row}
 use Rattle.cw_rows.specs.Crew.{CrewState, with_read}
-use Rattle.cw_rows.specs.Kept.{TopicsState, IsCluster}
+use Rattle.cw_topics.specs.Topics.{TopicsState}
+use Rattle.cw_rows.specs.Kept.{IsCluster}
 
 each-further : {A : Type 0} (P : List A → A → Type 0) (before xs : List A) (n : ℕ) → EachFrom P before xs →
     EachFrom P (before ++ take n xs) (drop n xs)

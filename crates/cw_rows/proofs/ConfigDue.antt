@@ -1,5 +1,5 @@
 -- What the row of an event is that writes records to the config log, and the halves of such an event.
-use Rattle.std.proofs.Common.{◌≡◌, ◌≢◌, ℕ, ◌==◌, ◌+◌, ◌<◌, ◌≤◌, ◌&&◌, Bool, true, false, List, [], ◌∷◌, ◌++◌, map, length, take, slice_index_or, bytes_eq, Option, Some, None, Result, Ok, Err, unwrap_or, if◌then◌else◌, refl, inl, inr, sym, ◌∙◌, ap, subst}
+use Rattle.std.proofs.Common.{◌≡◌, ◌≢◌, ℕ, ◌==◌, ◌<◌, ◌≤◌, ◌&&◌, Bool, true, false, List, [], ◌∷◌, ◌++◌, map, length, take, slice_index_or, bytes_eq, Option, Some, None, Ok, Err, unwrap_or, if◌then◌else◌, refl, inl, inr, sym, ◌∙◌, ap, subst}
 use Rattle.std.proofs.lemmas.Bool.{cases_eq, eqb-true}
 use Rattle.std.proofs.lemmas.List.{length-set, get_or-set_other, take-append-le}
 use Rattle.std.proofs.lemmas.Grind.{get_or-set_at}
@@ -21,12 +21,14 @@ use Rattle.cw_model.specs.Lookups.{no_row, row_of, seen}
 use Rattle.cw_model.specs.Refusals.{behind_refusal}
 use Rattle.cw_model.specs.Reopening.{stored_of}
 use Rattle.cw_model.specs.Updates.{stamped, next_config, with_configs, fits_configs, appends_configs, changes_row}
-use Rattle.cw_rows.specs.Configs.{IsUnplaced, have_offsets, newest_test, same_test}
+use Rattle.cw_topics.specs.Configs.{have_offsets}
+use Rattle.cw_rows.specs.Configs.{IsUnplaced, newest_test, same_test}
 use Rattle.cw_rows.specs.Crew.{CrewState, with_row}
-use Rattle.cw_rows.specs.Kept.{Kept, TopicsState, IsCluster}
+use Rattle.cw_topics.specs.Topics.{TopicsState}
+use Rattle.cw_rows.specs.Kept.{Kept, IsCluster}
 use Rattle.cw_rows.specs.Tests.{leader_test}
 use Rattle.cw_rows.specs.Writes.{IsDue, Readies, Refuses, Puts}
-use Rattle.cw_rows.proofs.ConfigFrames.{config-bytes}
+use Rattle.cw_topics.proofs.ConfigFrames.{config-bytes}
 use Rattle.cw_rows.proofs.Due.{by_test, passes, refuses, open-alive, by-leader, refuses-same, refuses-behind}
 
 if-true : {A : Type 0} (b : Bool) (x y : A) → b ≡ true → (if b then x else y) ≡ x

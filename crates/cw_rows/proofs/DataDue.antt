@@ -27,7 +27,8 @@ use Rattle.cw_model.specs.Updates.{with_data, fits_data, appends_data, as_produc
 use Rattle.cw_model.specs.declared.journal.JournalEntry.{JournalEntry}
 use Rattle.cw_rows.specs.Crew.{CrewState, with_instance}
 use Rattle.cw_group.specs.Circle.{CircleState}
-use Rattle.cw_rows.specs.Kept.{Kept, TopicsState, state_of, open_test, instance_test, HasSameLogs}
+use Rattle.cw_topics.specs.Topics.{TopicsState}
+use Rattle.cw_rows.specs.Kept.{Kept, state_of, open_test, instance_test, HasSameLogs}
 use Rattle.cw_rows.specs.Producing.{and_test, producer_test, writing_test, cut_test, producing_test, AddsData, IsTooLong}
 use Rattle.cw_rows.specs.Writes.{IsDue, Readies, Refuses, Puts}
 

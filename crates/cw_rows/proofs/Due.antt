@@ -1,5 +1,5 @@
 -- What the tests of an event say of its row, and what the row of an event is that writes entries.
-use Rattle.std.proofs.Common.{◌≡◌, ◌≢◌, ℕ, ◌==◌, Bool, true, false, List, [], ◌∷◌, ◌++◌, map, length, Option, Some, None, Result, Ok, Err, if◌then◌else◌, refl, sym, ◌∙◌, ap, subst}
+use Rattle.std.proofs.Common.{◌≡◌, ◌≢◌, ℕ, ◌==◌, Bool, true, false, List, [], ◌∷◌, ◌++◌, map, Option, Some, None, Result, Ok, Err, if◌then◌else◌, refl, sym, ◌∙◌, ap, subst}
 use Rattle.std.specs.List.{find}
 use Rattle.cw_types.specs.declared.ids.Epoch.{Epoch}
 use Rattle.cw_types.specs.declared.ids.Span.{Span}
@@ -21,8 +21,8 @@ use Rattle.cw_model.specs.Refusals.{behind_refusal}
 use Rattle.cw_model.specs.Updates.{with_entries, fits_entries, appends_entries, as_leader, as_producer, epoch_in, tid_of}
 use Rattle.cw_rows.specs.Kept.{Kept, open_test, worker_test, instance_test, HasSameLogs}
 use Rattle.cw_rows.specs.Tests.{epoch_test, producer_test, leader_test, bad_test, raw_test}
-use Rattle.cw_rows.specs.Writes.{with_body, IsWritten, IsDue, Readies, Refuses, Puts}
-use Rattle.cw_rows.proofs.Written.{has-bytes}
+use Rattle.cw_rows.specs.Writes.{IsDue, Readies, Refuses, Puts}
+use Rattle.cw_topics.proofs.Written.{has-bytes}
 
 -- ---- an event by its test
 

@@ -1,5 +1,5 @@
 -- The halves of each event that writes entries: its memory is taken, or it is refused, or it is put in.
-use Rattle.std.proofs.Common.{◌≡◌, ◌≢◌, ◌+◌, ℕ, ◌<◌, ◌==◌, true, List, [], ◌∷◌, length, map, take, slice_index_or, None, Ok, Err, unwrap_or, if◌then◌else◌, refl, sym, ◌∙◌, ap}
+use Rattle.std.proofs.Common.{◌≡◌, ◌≢◌, ℕ, ◌<◌, true, List, [], ◌∷◌, length, map, take, slice_index_or, Ok, Err, unwrap_or, refl, ◌∙◌, ap}
 use Rattle.cw_types.specs.declared.ids.Epoch.{Epoch}
 use Rattle.cw_types.specs.declared.ids.Span.{Span}
 use Rattle.cw_types.specs.declared.logs.LogName.TheVariants.{Txn}
@@ -9,11 +9,11 @@ use Rattle.cw_config.specs.declared.records.ConfigRecord.{ConfigRecord}
 use Rattle.cw_model.specs.declared.row.Row.{Row}
 use Rattle.cw_rest.specs.Operations.{offset_entries}
 use Rattle.cw_txn.specs.declared.entry.Entry.{Entry}
-use Rattle.cw_txn.specs.declared.entry.Entry.TheVariants.{Bump, Commit, Set}
+use Rattle.cw_txn.specs.declared.entry.Entry.TheVariants.{Bump}
 use Rattle.cw_txn.specs.declared.entry.SetOffset.{SetOffset}
 use Rattle.cw_txn.specs.Body.{entries_bytes}
 use Rattle.cw_model.specs.declared.fault.WorldFault.{WorldFault}
-use Rattle.cw_model.specs.declared.fault.WorldFault.TheVariants.{Fenced, Memory}
+use Rattle.cw_model.specs.declared.fault.WorldFault.TheVariants.{Memory}
 use Rattle.cw_model.specs.declared.instance.InstancePhase.TheVariants.{Polling}
 use Rattle.cw_model.specs.State.{Cluster}
 use Rattle.cw_model.specs.Answers.{Answer, refused}
@@ -24,11 +24,12 @@ use Rattle.cw_model.specs.EventsSinks.{put_sink, sink_offset}
 use Rattle.cw_model.specs.EventsSources.{init, commit, with_epoch, committed_to}
 use Rattle.cw_model.specs.Lookups.{row_of, instance_of, no_row}
 use Rattle.cw_model.specs.Refusals.{behind_refusal}
-use Rattle.cw_model.specs.Tasks.{tag_of, cut_of, span_of, polling_from}
+use Rattle.cw_model.specs.Tasks.{cut_of, span_of, polling_from}
 use Rattle.cw_model.specs.Updates.{with_entries, appends_entries, bumps, next_epoch, changes_row, changes_instance, tid_of}
 use Rattle.cw_rows.specs.Entries.{commit_of, raw_commit_in, fencing_in}
 use Rattle.cw_rows.specs.Crew.{CrewState}
-use Rattle.cw_rows.specs.Kept.{Kept, TopicsState, IsCluster, open_test, worker_test, instance_test}
+use Rattle.cw_topics.specs.Topics.{TopicsState}
+use Rattle.cw_rows.specs.Kept.{Kept, IsCluster, open_test, worker_test, instance_test}
 use Rattle.cw_rows.specs.Tests.{producer_test, leader_test, raw_test}
 use Rattle.cw_rows.specs.Writes.{Readies, Refuses, Puts}
 use Rattle.cw_rows.proofs.Due.{passes, refuses, open-alive, by-open, by-worker, by-instance, by-producer, by-leader, by-raw, raw_done, readies, puts, refuses-same, refuses-behind}

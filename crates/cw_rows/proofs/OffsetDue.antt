@@ -1,43 +1,40 @@
 -- What the row of an event is that writes an entry to the offset log.
-use Rattle.std.proofs.Common.{◌≡◌, ◌≢◌, ℕ, ◌==◌, ◌+◌, ◌≤◌, ◌<◌, ◌^◌, ◌&&◌, Bool, true, false, List, [], ◌∷◌, ◌++◌, map, length, Option, Some, None, Result, Ok, Err, if◌then◌else◌, nat_lt, cond, refl, sym, ◌∙◌, ap, subst, arith, length-append}
-use Rattle.std.specs.List.{list_all}
+use Rattle.std.proofs.Common.{◌≡◌, ◌≢◌, ℕ, ◌≤◌, ◌<◌, ◌^◌, ◌&&◌, Bool, true, false, List, [], ◌∷◌, ◌++◌, map, length, Option, Some, None, Ok, Err, if◌then◌else◌, nat_lt, refl, sym, ◌∙◌, ap, subst, arith, length-append}
 use Rattle.std.proofs.lemmas.Bool.{lt-ltb, le-ltb}
 use Rattle.cw_types.specs.declared.ids.Span.{Span}
 use Rattle.cw_types.specs.declared.ids.Tag.{Tag}
 use Rattle.cw_types.specs.declared.logs.DiskName.{DiskName}
 use Rattle.cw_types.specs.declared.logs.LogName.TheVariants.{Offsets}
-use Rattle.cw_bytes.specs.Spelling.{long, word, tag_bytes, text, value_bytes, record_bytes, records_bytes}
-use Rattle.cw_bytes.specs.declared.applied.Applied.{Applied}
+use Rattle.cw_bytes.specs.Spelling.{long, word, tag_bytes, text, value_bytes, records_bytes}
 use Rattle.cw_keys.specs.Parts.{part_text}
 use Rattle.cw_keys.specs.Offsets.{offset_text}
 use Rattle.cw_offset.specs.Body.{entry_bytes}
 use Rattle.cw_offset.specs.Calls.{Calls}
-use Rattle.cw_offset.specs.Log.{offset_records, offset_tag, is_marked}
+use Rattle.cw_offset.specs.Log.{offset_tag, is_marked}
 use Rattle.cw_offset.specs.declared.body.OffsetEntry.{OffsetEntry}
 use Rattle.cw_offset.specs.declared.body.OffsetEntry.TheVariants.{Records, Mark}
 use Rattle.cw_group.specs.Circle.{CircleState}
 use Rattle.cw_model.specs.declared.fault.WorldFault.{WorldFault}
 use Rattle.cw_model.specs.declared.fault.WorldFault.TheVariants.{Full, Memory}
-use Rattle.cw_model.specs.declared.instance.Instance.{Instance}
 use Rattle.cw_model.specs.declared.instance.InstancePhase.TheVariants as phase
 use Rattle.cw_model.specs.declared.journal.JournalEntry.{JournalEntry}
-use Rattle.cw_model.specs.State.{Cluster, Paired}
+use Rattle.cw_model.specs.State.{Cluster}
 use Rattle.cw_model.specs.Answers.{Answer, refused, unless_closed}
 use Rattle.cw_model.specs.Bodies.{offsets_length, frame_of, has_room}
 use Rattle.cw_model.specs.EventsMarking.{mark}
 use Rattle.cw_model.specs.EventsSources.{put_offsets}
 use Rattle.cw_model.specs.Lookups.{instance_of}
-use Rattle.cw_model.specs.Phases.{is_ended}
 use Rattle.cw_model.specs.Reopening.{stored_of}
-use Rattle.cw_model.specs.Tasks.{tag_of, span_of}
-use Rattle.cw_model.specs.Updates.{with_offset, fits_offset, appends_offset, changes_instance, in_phase, is_offset, next_offset, stamp_of}
+use Rattle.cw_model.specs.Tasks.{tag_of}
+use Rattle.cw_model.specs.Updates.{with_offset, fits_offset, appends_offset, changes_instance, in_phase, next_offset}
 use Rattle.cw_rows.specs.Crew.{CrewState, with_instance}
-use Rattle.cw_rows.specs.Kept.{Kept, TopicsState, state_of, open_test}
+use Rattle.cw_topics.specs.Topics.{TopicsState}
+use Rattle.cw_rows.specs.Kept.{Kept, state_of, open_test}
 use Rattle.cw_rows.specs.Marking.{marked_tag, marked_so}
-use Rattle.cw_rows.specs.Offsets.{AddsOffset, OffsetLogState, offset_marker, offered, record_at}
+use Rattle.cw_rows.specs.Offsets.{AddsOffset, offset_marker, offered, record_at}
 use Rattle.cw_rows.specs.Producing.{writing_test}
 use Rattle.cw_rows.specs.Writes.{IsDue, Readies, Refuses, Puts}
-use Rattle.cw_rows.proofs.DataDue.{by_tests, tests-pass, tests-refuse, by-writing, writing-open, writing-runs, open-passed, refuses-so}
+use Rattle.cw_rows.proofs.DataDue.{by_tests, tests-pass, tests-refuse, by-writing, writing-open, open-passed, refuses-so}
 
 if-true : {A : Type 0} (b : Bool) (x y : A) → b ≡ true → (if b then x else y) ≡ x
 if-true true x y is = refl

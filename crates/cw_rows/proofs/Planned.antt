@@ -1,9 +1,8 @@
 -- The items of the connectors that a view lists are the configured ones.
-use Rattle.std.proofs.Common.{◌≡◌, ℕ, Bool, true, false, ◌||◌, ◌&&◌, cond, List, [], ◌∷◌, ◌++◌, Option, None, Some, refl, ap, sym, subst, ◌∙◌, true≢false, Ordering}
+use Rattle.std.proofs.Common.{◌≡◌, ℕ, Bool, true, false, ◌||◌, ◌&&◌, cond, List, [], ◌∷◌, Option, None, Some, refl, ap, sym, subst, ◌∙◌, true≢false, Ordering}
 use mathlib.Core.Path.{fun_ext}
 use Rattle.std.specs.Option.{is_some, option_and_then, option_or}
 use Rattle.std.specs.List.{filter, filter_map, flat_map, cons_option, list_any}
-use Rattle.std.specs.List.Sorted.{IsStrictlySortedBy}
 use Rattle.std.specs.Cmp.{both_ways, IsTotalOrder, then_total, on_total, nat_cmp_total}
 use Rattle.std.specs.Cmp.Lexicographic.{slice_cmp, nat_list_cmp_total}
 use Rattle.std.specs.Ordering.{eq_by_cmp, is_eq, nat_cmp, ordering_then, then_cmp, on}
@@ -27,7 +26,7 @@ use Rattle.cw_config.specs.Connectors.{AreConnectors}
 use Rattle.cw_config.proofs.Rising.{last_where-cons}
 use Rattle.cw_rest.specs.Seen.{connector_key}
 use Rattle.cw_model.specs.Lookups.{items_of, configured_items}
-use Rattle.cw_rows.proofs.Sorted.{sorted, same_fold}
+use Rattle.cw_rows.proofs.Sorted.{same_fold}
 
 -- ---- the order of items is total
 

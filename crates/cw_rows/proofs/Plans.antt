@@ -5,17 +5,16 @@ use Rattle.cw_types.specs.declared.logs.DiskName.{DiskName}
 use Rattle.cw_assign.specs.declared.share.Plan.{Plan}
 use Rattle.cw_assign.specs.declared.delay.Delay.{Delay}
 use Rattle.cw_assign.specs.declared.delay.Delay.TheVariants.{Idle, Until}
-use Rattle.cw_assign.specs.Plan.{plan_of}
 use Rattle.cw_group.specs.declared.answers.GroupFault.{GroupFault}
 use Rattle.cw_group.specs.Group.{GroupState, store_row}
-use Rattle.cw_group.specs.Members.{holders_of}
 use Rattle.cw_model.specs.declared.fault.WorldFault.TheVariants.{Group}
 use Rattle.cw_model.specs.declared.journal.JournalEntry.{JournalEntry}
 use Rattle.cw_model.specs.State.{Cluster}
-use Rattle.cw_model.specs.Answers.{Answer, answered, refused, at_group}
+use Rattle.cw_model.specs.Answers.{Answer, answered, at_group}
 use Rattle.cw_model.specs.Lookups.{configured_items}
-use Rattle.cw_model.specs.EventsGroups.{is_due, is_running, without_due_delay, plan_for, store_plan}
-use Rattle.cw_rows.specs.Kept.{TopicsState, state_of, worker_test}
+use Rattle.cw_model.specs.EventsGroups.{is_due, without_due_delay, plan_for, store_plan}
+use Rattle.cw_topics.specs.Topics.{TopicsState}
+use Rattle.cw_rows.specs.Kept.{state_of, worker_test}
 use Rattle.cw_rows.specs.Crew.{CrewState}
 use Rattle.cw_group.specs.Circle.{CircleState, with_group, freed, without_due, plan_in, StoresPlan}
 use Rattle.cw_group.specs.Circle.{is_due as is_over}

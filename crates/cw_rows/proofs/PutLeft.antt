@@ -1,5 +1,5 @@
 -- What a compaction has left is put in: the state is the one behind the event.
-use Rattle.std.proofs.Common.{◌≡◌, ℕ, ◌+◌, ◌-◌, ◌<◌, ◌^◌, true, List, length, nat_lt, Bool, if◌then◌else◌, None, Option, Ok, refl, sym, ap, subst, ◌∙◌, arith}
+use Rattle.std.proofs.Common.{◌≡◌, ℕ, ◌+◌, ◌-◌, ◌<◌, ◌^◌, true, length, nat_lt, Bool, if◌then◌else◌, None, Option, refl, ap, ◌∙◌, arith}
 use Rattle.std.specs.List.{flat_map}
 use Rattle.std.proofs.lemmas.Bool.Decides.{nat_tests}
 use Rattle.cw_types.specs.declared.logs.LogName.TheVariants.{Config, Offsets, Status}
@@ -15,7 +15,7 @@ use Rattle.cw_bytes.specs.Frames.{joined}
 use Rattle.cw_offset.specs.Log.{offset_records}
 use Rattle.cw_model.specs.EventsCompaction.{compact, compacts}
 use Rattle.cw_rows.specs.Kept.{Kept}
-use Rattle.cw_rows.specs.Left.{LeftLog, IsLeftLog}
+use Rattle.cw_topics.specs.Left.{LeftLog, IsLeftLog}
 use Rattle.cw_rows.specs.Writes.{Puts}
 
 fresh : (n side : ℕ) → side ≡ n + 1 → side < 2 ^ 64 → nat_lt n (2 ^ 64 - 1) ≡ true

@@ -1,10 +1,8 @@
--- Entries of the transaction list for whose writing memory was taken, the next one first.
-use Rattle.std.specs.Prelude.{◌≡◌, ℕ, List, [], ◌∷◌, ◌++◌, drop, map, unwrap_or}
+-- The entries of the transaction list that events write.
+use Rattle.std.specs.Prelude.{ℕ, List, [], ◌∷◌, map, unwrap_or}
 use Rattle.cw_types.specs.declared.ids.Epoch.{Epoch}
 use Rattle.cw_txn.specs.declared.entry.Entry.{Entry}
 use Rattle.cw_txn.specs.declared.entry.Entry.TheVariants.{Commit}
-use Rattle.cw_txn.specs.Transactions.{Transactions}
-use Rattle.cw_txn.specs.Body.{entries_bytes}
 use Rattle.cw_config.specs.declared.records.ConfigRecord.{ConfigRecord}
 use Rattle.cw_config.specs.View.{generation_of, fenced_count_of}
 use Rattle.cw_model.specs.declared.instance.Instance.{Instance}
@@ -13,19 +11,6 @@ use Rattle.cw_model.specs.declared.row.Fencing.{Fencing}
 use Rattle.cw_model.specs.EventsLeading.{going_on}
 use Rattle.cw_model.specs.EventsRaw.{raw_span, raw_commit_of}
 use Rattle.cw_model.specs.Tasks.{tag_of, span_of}
-
--- a frame's entries, the list of the one frame that they are, and its bytes
-pub record IsEntryFrame (entries : List Entry) (list : List (List Entry)) (body : List ℕ) : Type 0 where
-  pub list_is : list ≡ entries ∷ []
-  pub body_is : body ≡ entries_bytes entries
-
--- memory was taken for this entry first
-abbrev pub IsReadied : Entry → Transactions → Type 0
-IsReadied entry t = t.reserved ≡ entry ∷ drop 1 t.reserved
-
--- an entry is put in, by the memory that was taken for it first
-abbrev pub with_readied : Entry → Transactions → Transactions
-with_readied entry t = record { entries = t.entries ++ entry ∷ []; reserved = drop 1 t.reserved }
 
 -- what a task commits
 abbrev pub commit_of : Instance → Entry

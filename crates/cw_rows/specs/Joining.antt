@@ -1,5 +1,5 @@
 -- How a worker joins (KIP-415): where it is no member it enters first, with nothing in its claim.
-use Rattle.std.specs.Prelude.{◌≡◌, ℕ, List}
+use Rattle.std.specs.Prelude.{ℕ, List}
 use Rattle.cw_types.specs.declared.ids.Item.{Item}
 use Rattle.cw_group.specs.Group.{join_row}
 use Rattle.cw_model.specs.State.{Cluster}

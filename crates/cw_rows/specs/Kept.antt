@@ -2,10 +2,7 @@
 use Rattle.std.specs.Prelude.{◌≡◌, ◌≢◌, ℕ, ◌<◌, List, [], length, take, slice_index_or, Option, Some, None, Result, Ok}
 use Rattle.std.specs.Prelude.{Err, if◌then◌else◌, ◌==◌, not, nat_lt, unwrap_or}
 use Rattle.cw_types.specs.declared.logs.DiskName.{DiskName}
-use Rattle.cw_bytes.specs.declared.applied.Applied.{Applied}
 use Rattle.cw_txn.specs.declared.entry.Entry.{Entry}
-use Rattle.cw_txn.specs.Transactions.{Transactions}
-use Rattle.cw_data.specs.DataLog.{DataLog}
 use Rattle.cw_data.specs.declared.entry.DataEntry.{DataEntry}
 use Rattle.cw_config.specs.declared.records.ConfigRecord.{ConfigRecord}
 use Rattle.cw_config.specs.View.{generation_of, task_count_of, is_pending}
@@ -16,26 +13,12 @@ use Rattle.cw_model.specs.declared.fault.WorldFault.TheVariants.{Closed, Dead, G
 use Rattle.cw_model.specs.declared.fault.WorldFault.TheVariants.{PendingFence}
 use Rattle.cw_model.specs.declared.journal.JournalEntry.{JournalEntry}
 use Rattle.cw_status.specs.declared.record.StatusRecord.{StatusRecord}
-use Rattle.cw_model.specs.State.{Setting, Paired, Cluster}
+use Rattle.cw_model.specs.State.{Setting, Cluster}
 use Rattle.cw_model.specs.Answers.{Answer}
 use Rattle.cw_model.specs.Phases.{is_ended}
 use Rattle.cw_model.specs.Lookups.{no_row, row_of, instance_of}
 use Rattle.cw_rows.specs.Crew.{CrewState}
-use Rattle.cw_rows.specs.Statuses.{StatusList}
-use Rattle.cw_rows.specs.Offsets.{OffsetLogState}
-
--- what the logs hold, and what follows from it
-pub record TopicsState : Type 0 where
-  pub config : Paired (List Applied)
-  pub offsets : OffsetLogState
-  pub status : Paired (List Applied)
-  pub txn : List (List Entry)
-  pub configs : List ConfigRecord
-  pub statuses : StatusList
-  pub entries : Transactions
-  pub batches : DataLog
-  -- the records of the config log for whose writing memory was taken
-  pub ready_configs : List ConfigRecord
+use Rattle.cw_topics.specs.Topics.{TopicsState}
 
 -- the cluster, what stays the same of it, the entries, data entries, configs and statuses for whose writing memory was
 -- taken, and what is told of the offset log

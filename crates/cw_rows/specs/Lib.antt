@@ -11,5 +11,3 @@ pub mod Configs
 pub mod Statuses
 pub mod Opened
 pub mod Offsets
-pub mod Replaying
-pub mod Left

@@ -1,11 +1,9 @@
 -- A cluster as it is opened: what the logs hold, no worker, and nothing done yet.
-use Rattle.std.specs.Prelude.{List, [], ◌∷◌, ◌++◌, None}
+use Rattle.std.specs.Prelude.{[], None}
 use Rattle.cw_assign.specs.declared.delay.Delay.TheVariants.{Idle}
 use Rattle.cw_group.specs.Group.{empty_group}
-use Rattle.cw_txn.specs.declared.entry.Entry.{Entry}
-use Rattle.cw_txn.specs.Transactions.{Transactions}
 use Rattle.cw_model.specs.State.{Cluster}
-use Rattle.cw_rows.specs.Kept.{TopicsState}
+use Rattle.cw_topics.specs.Topics.{TopicsState}
 
 -- the state without workers over what the logs hold
 abbrev pub opened_of : TopicsState → Cluster
@@ -27,7 +25,3 @@ opened_of topics = record {
   journal = [];
   closed = None;
 }
-
--- entries with one more, with no memory taken for others
-abbrev pub with_entry : Entry → List Entry → Transactions
-with_entry entry entries = record { entries = entries ++ entry ∷ []; reserved = [] }

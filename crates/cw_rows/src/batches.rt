@@ -4,14 +4,14 @@ ghost use Rattle.cw_data.specs.declared.entry.DataEntry.TheVariants.{Batch as In
 ghost use Rattle.cw_feed.specs.Yield.{HasYield};
 ghost use Rattle.cw_model.specs.EventsSources.{ends_badly, is_bad_cut, batch_of};
 ghost use Rattle.cw_model.specs.Tasks.{parts_of, part_at, count_of, tag_of, topic_of, yielded};
-ghost use Rattle.cw_model.specs.Updates.{tid_of};
 ghost use Rattle.cw_rows.specs.Producing.{cut_test, HasTopic};
 
 use crate::steps::position_at;
 use cw_data::Batch;
 use cw_feed::{Feeds, yields_are_one};
 use cw_model::{Cut, Instance, WorldFault, what_is_yielded_is_the_feeds_yield};
-use cw_types::{Epoch, Item, Listed, Name, PartKey, Tag, TaskId, Tid};
+use cw_topics::tid_of;
+use cw_types::{Epoch, Listed, Name, PartKey, Tag};
 use std::alloc::{AllocError, Global};
 
 /// The transaction that a task writes under.
@@ -23,19 +23,6 @@ pub(crate) fn tag_of(instance: &Instance) -> Result<Tag, AllocError>
         epoch: instance.epoch.unwrap_or(Epoch(0)),
         tid: tid_of(&instance.item)?,
     })
-}
-
-// The producer of a task.
-fn tid_of(item: &Item) -> Result<Tid, AllocError>
-    ensures { IfOk result (λ tid. tid ≡ tid_of item.now) }
-{
-    match item {
-        Item::Connector(name) => Ok(Tid::Task(TaskId {
-            connector: name.copy()?,
-            index: 0,
-        })),
-        Item::Task(id) => Ok(Tid::Task(id.copy()?)),
-    }
 }
 
 /// The part of a turn.

@@ -8,12 +8,12 @@ ghost use Rattle.cw_assign.specs.Items.{same_item};
 ghost use Rattle.cw_model.specs.Lookups.{row_of, instance_of, held, seen};
 
 use crate::crew::Crew;
-use crate::topics::Topics;
 use cw_assign::Delay;
 use cw_config::ConfigState;
 use cw_feed::Feeds;
 use cw_group::{Circle, Group};
 use cw_model::{Instance, InstancePhase, JournalEntry, Row, WorldFault};
+use cw_topics::Topics;
 use cw_types::{DiskName, Item, Name};
 use std::alloc::{AllocError, Global};
 use std::marker::Model;

@@ -12,19 +12,13 @@ ghost use Rattle.cw_status.specs.Compaction.{compact_statuses};
 ghost use Rattle.cw_types.specs.declared.logs.LogName.TheVariants as log;
 ghost use Rattle.cw_model.specs.declared.fault.WorldFault.TheVariants as fault;
 ghost use Rattle.cw_model.specs.EventsCompaction.{compact};
-ghost use Rattle.cw_rows.specs.Left.{IsLeftLog};
+ghost use Rattle.cw_topics.specs.Left.{IsLeftLog};
 ghost use Rattle.cw_rows.specs.Writes.{Puts};
 
 use crate::cluster::Cluster;
-use crate::left_offsets::LeftOffsetLog;
-use crate::offset_log::OffsetLog;
-use crate::topics::Topics;
-use cw_bytes::Applied;
-use cw_compact::{LeftRecords, left_configs, left_statuses};
+use cw_compact::LeftRecords;
 use cw_model::WorldFault;
-use cw_types::Listed;
-use std::alloc::{AllocError, Global};
-use std::collections::LinkedList;
+use cw_topics::LeftOffsetLog;
 
 impl Cluster {
     /// What a compaction leaves of the config log.
@@ -105,57 +99,5 @@ impl Cluster {
         let counts = left.counts();
         self.topics.put_left_offsets(left.into_log(side));
         counts
-    }
-}
-
-impl Topics {
-    // What a compaction leaves of the config log.
-    fn left_configs(&self, alloc: Global) -> Result<LeftRecords, AllocError>
-        requires { AllByRecursion AreRecords (compact_configs self.now.config.frames) }
-        ensures { IfOk result (AreLeft self.now.config.frames (compact_configs self.now.config.frames)) }
-    {
-        left_configs(alloc, &self.config)
-    }
-
-    // The config log has these frames, on the side of this number.
-    fn put_left_configs(&mut self, frames: LinkedList<Listed<Applied>>, side: u64)
-        ensures { self.new ≡ record self.old { config = record { frames = frames; side = side } } }
-    {
-        self.config = frames;
-        self.config_side = side;
-    }
-
-    // What a compaction leaves of the status log.
-    fn left_statuses(&self, alloc: Global) -> Result<LeftRecords, AllocError>
-        requires { AllByRecursion AreRecords (compact_statuses self.now.status.frames) }
-        ensures { IfOk result (AreLeft self.now.status.frames (compact_statuses self.now.status.frames)) }
-    {
-        left_statuses(alloc, &self.status)
-    }
-
-    // The status log has these frames, on the side of this number.
-    fn put_left_statuses(&mut self, frames: LinkedList<Listed<Applied>>, side: u64)
-        ensures { self.new ≡ record self.old { status = record { frames = frames; side = side } } }
-    {
-        self.status = frames;
-        self.status_side = side;
-    }
-
-    // What a compaction leaves of the offset log.
-    fn left_offsets(&self, alloc: Global) -> Result<LeftOffsetLog, AllocError>
-        requires whole { self.now.entries.entries ≡ joined self.now.txn }
-        requires written { AllByRecursion HasRecords
-            (compact_offsets (joined self.now.txn) self.now.offsets.frames) }
-        ensures { IfOk result (IsLeftLog self.now.offsets.frames
-            (compact_offsets (joined self.now.txn) self.now.offsets.frames)) }
-    {
-        self.offsets.left(alloc, &self.txn, &self.coordinator)
-    }
-
-    // This is the offset log.
-    fn put_left_offsets(&mut self, log: OffsetLog)
-        ensures { self.new ≡ record self.old { offsets = log } }
-    {
-        self.offsets = log;
     }
 }

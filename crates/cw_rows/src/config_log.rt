@@ -11,17 +11,16 @@ ghost use Rattle.cw_model.specs.declared.fault.WorldFault.TheVariants as fault;
 ghost use Rattle.cw_model.specs.Bodies.{config_applied, config_body, frame_of, has_room};
 ghost use Rattle.cw_model.specs.EventsLeading.{append_config, MayAppendConfig};
 ghost use Rattle.cw_model.specs.Updates.{stamped};
-ghost use Rattle.cw_rows.specs.Configs.{IsWritable, IsUnplaced, HaveRead, have_offsets, records_from};
+ghost use Rattle.cw_topics.specs.Configs.{IsWritable, have_offsets, records_from};
+ghost use Rattle.cw_rows.specs.Configs.{IsUnplaced, HaveRead};
 ghost use Rattle.cw_rows.specs.Tests.{leader_test};
 ghost use Rattle.cw_rows.specs.Writes.{bytes_in, Readies, Refuses, Puts};
 
 use crate::cluster::Cluster;
-use crate::config_frame::{ConfigFrame, frame_from};
-use crate::topics::Topics;
-use cw_compact::hang;
 use cw_config::ConfigState;
 use cw_keys::{ConfigKey, ConfigValue};
 use cw_model::WorldFault;
+use cw_topics::{ConfigFrame, frame_from};
 use cw_types::LogName;
 use std::alloc::AllocError;
 
@@ -132,35 +131,6 @@ impl Cluster {
             },
             Err(AllocError) => WorldFault::Memory,
         }
-    }
-}
-
-impl Topics {
-    /// Takes the memory of the records of a frame.
-    pub(crate) fn ready_configs(&mut self, frame: &ConfigFrame) -> Result<(), AllocError>
-        ensures same { self.new ≡ record self.old { ready_configs = self.new.ready_configs } }
-        ensures ready { OnOk result (self.new.ready_configs ≡ frame.now) }
-    {
-        self.configs.ready(frame.records())
-    }
-
-    /// Puts in a frame that stands in the log. It takes no memory.
-    pub(crate) fn put_configs(&mut self, frame: ConfigFrame)
-        requires few { length self.old.config.frames < 2 ^ 62 }
-        requires some { 1 ≤ length frame }
-        requires ready { self.old.ready_configs ≡ frame }
-        requires accepted { AreAccepted self.old.configs frame }
-        ensures { self.new ≡ record self.old {
-          config = record self.old.config {
-            frames = self.old.config.frames ++ map config_applied frame ∷ [];
-          };
-          configs = self.old.configs ++ frame;
-          ready_configs = [];
-        } }
-    {
-        let (records, list) = frame.into_parts();
-        hang(&mut self.config, list);
-        self.configs.put(records);
     }
 }
 

@@ -21,6 +21,7 @@ use cw_assign::ItemSet;
 use cw_config::{ConfigRecord, ConfigState};
 use cw_group::Synced;
 use cw_model::{Cut, Fencing, Instance, InstancePhase, Row, RowPhase, Trace};
+use cw_topics::copies_from;
 use cw_types::{Epoch, Item, Listed};
 use std::alloc::{AllocError, Global};
 use std::marker::Model;
@@ -412,21 +413,6 @@ fn read_on(
             Err(AllocError)
         }
     }
-}
-
-/// A copy of the records from a place on.
-pub(crate) fn copies_from(
-    alloc: Global,
-    records: &[ConfigRecord],
-    from: u64,
-) -> Result<Vec<ConfigRecord>, AllocError>
-    ensures { IfOk result (λ copies. copies.items ≡ drop from records.now) }
-{
-    let mut copies = Vec::new(alloc);
-    for at in from as usize..records.len() {
-        copies.push(records[at].copy()?)?;
-    }
-    Ok(copies)
 }
 
 // A worker's numbers, but for one that has ended.

@@ -9,8 +9,8 @@ ghost use Rattle.cw_rows.specs.Tests.{epoch_test, producer_test, leader_test};
 
 use crate::cluster::Cluster;
 use cw_model::WorldFault;
-use cw_types::{Epoch, Item, TaskId, Tid};
-use std::alloc::AllocError;
+use cw_topics::tid_of;
+use cw_types::{Epoch, Tid};
 
 impl Cluster {
     /// The producer of an instance's task. It is refused where writing has ended, the instance has, or the producer is
@@ -72,18 +72,5 @@ fn epoch_in(epoch: Option<Epoch>) -> u64
     match epoch {
         Some(epoch) => epoch.0,
         None => 0,
-    }
-}
-
-/// The producer of a task. A connector is none, and stands for its first one.
-pub(crate) fn tid_of(item: &Item) -> Result<Tid, AllocError>
-    ensures { IfOk result (λ tid. tid ≡ tid_of item.now) }
-{
-    match item {
-        Item::Connector(name) => Ok(Tid::Task(TaskId {
-            connector: name.copy()?,
-            index: 0,
-        })),
-        Item::Task(id) => Ok(Tid::Task(id.copy()?)),
     }
 }

@@ -8,14 +8,15 @@ ghost use Rattle.cw_model.specs.Bodies.{config_body, frame_of, has_room};
 ghost use Rattle.cw_model.specs.EventsLeading.{append_fence, fence_record};
 ghost use Rattle.cw_model.specs.Lookups.{seen};
 ghost use Rattle.cw_model.specs.Updates.{stamped};
-ghost use Rattle.cw_rows.specs.Configs.{HaveRead, have_offsets, newest_test, same_test};
+ghost use Rattle.cw_topics.specs.Configs.{have_offsets};
+ghost use Rattle.cw_rows.specs.Configs.{HaveRead, newest_test, same_test};
 ghost use Rattle.cw_rows.specs.Tests.{leader_test};
 ghost use Rattle.cw_rows.specs.Writes.{bytes_in, Readies, Refuses, Puts};
 
 use crate::cluster::Cluster;
-use crate::config_frame::ConfigFrame;
 use cw_keys::{ConfigKey, ConfigValue};
 use cw_model::WorldFault;
+use cw_topics::ConfigFrame;
 use cw_types::Name;
 use std::alloc::{AllocError, Global};
 

@@ -20,10 +20,9 @@ ghost use Rattle.cw_rows.specs.Tests.{leader_test};
 ghost use Rattle.cw_rows.specs.Writes.{bytes_in, Readies, Refuses, Puts};
 
 use crate::cluster::Cluster;
-use crate::frame::EntryFrame;
-use crate::topics::Topics;
 use cw_config::ConfigState;
 use cw_model::{Fencing, Row, WorldFault};
+use cw_topics::{EntryFrame, Topics};
 use cw_txn::{Entry, SetOffset};
 use cw_types::{Epoch, Listed, Name, TaskId, Tid};
 use std::alloc::{AllocError, Global};
@@ -92,10 +91,13 @@ impl Cluster {
         ensures ready { IfOk result (λ frame. self.new.ready ≡ frame.frame) }
     {
         self.test_leader(w)?;
-        let Ok(frame) = self
-            .topics
-            .ready_fence(self.alloc, self.crew.row(w), self.crew.read_by(w), name)
-        else {
+        let Ok(frame) = ready_fence(
+            &mut self.topics,
+            self.alloc,
+            self.crew.row(w),
+            self.crew.read_by(w),
+            name,
+        ) else {
             return Err(WorldFault::Memory);
         };
         Ok(frame)
@@ -138,7 +140,7 @@ impl Cluster {
     {
         self.test_leader(w)?;
         let epoch = self.crew.row(w).lead.unwrap_or(Epoch(0));
-        let Ok(frame) = self.topics.ready_offsets(self.alloc, name, epoch, list) else {
+        let Ok(frame) = ready_offsets(&mut self.topics, self.alloc, name, epoch, list) else {
             return Err(WorldFault::Memory);
         };
         Ok(frame)
@@ -159,52 +161,56 @@ impl Cluster {
     }
 }
 
-impl Topics {
-    // Takes the memory of the bump that fences the next producer, and writes its frame.
-    fn ready_fence(
-        &mut self,
-        alloc: Global,
-        row: &Row,
-        read: &ConfigState,
-        name: &Name,
-    ) -> Result<FenceFrame, AllocError>
-        ensures same { self.new ≡ record self.old {
-          entries = record self.old.entries { reserved = self.new.entries.reserved };
-        } }
-        ensures fencing { IfOk result (λ frame. frame.fencing ≡
-            fencing_in row.now read.now self.old.configs name.now) }
-        ensures frame { IfOk result (λ frame. frame.frame ≡
-            entry.Bump (fenced_tid (fencing_in row.now read.now self.old.configs name.now)) ∷ []) }
-        ensures ready { IfOk result (λ frame. self.new.entries.reserved ≡ frame.frame) }
-    {
-        let fencing = fencing_of(row, read, self.configs(), name)?;
-        let id = TaskId {
-            connector: fencing.connector.copy()?,
-            index: fencing.next,
-        };
-        let frame = self.ready_entry(alloc, Entry::Bump(Tid::Task(id)))?;
-        Ok(FenceFrame { frame, fencing })
-    }
+// Takes the memory of the bump that fences the next producer, and writes its frame.
+fn ready_fence(
+    topics: &mut Topics,
+    alloc: Global,
+    row: &Row,
+    read: &ConfigState,
+    name: &Name,
+) -> Result<FenceFrame, AllocError>
+    ensures same { topics.new ≡ record topics.old {
+      entries = record topics.old.entries { reserved = topics.new.entries.reserved };
+    } }
+    ensures fencing { IfOk result (λ frame. frame.fencing ≡
+        fencing_in row.now read.now topics.old.configs name.now) }
+    ensures frame { IfOk result (λ frame. frame.frame ≡
+        entry.Bump (fenced_tid (fencing_in row.now read.now topics.old.configs name.now)) ∷ []) }
+    ensures ready { IfOk result (λ frame. topics.new.entries.reserved ≡ frame.frame) }
+{
+    let fencing = fencing_of(row, read, topics.configs(), name)?;
+    let id = TaskId {
+        connector: fencing.connector.copy()?,
+        index: fencing.next,
+    };
+    let frame = topics.ready_entry(alloc, Entry::Bump(Tid::Task(id)))?;
+    Ok(FenceFrame { frame, fencing })
+}
 
-    // Takes the memory of offsets of a connector and the bumps of its producers, and writes their frame.
-    fn ready_offsets(
-        &mut self,
-        alloc: Global,
-        name: &Name,
-        epoch: Epoch,
-        list: &[SetOffset],
-    ) -> Result<EntryFrame, AllocError>
-        ensures same { self.new ≡ record self.old {
-          entries = record self.old.entries { reserved = self.new.entries.reserved };
-        } }
-        ensures frame { IfOk result (λ frame. frame ≡
-            offset_entries name.now (fenced_count_of name.now self.old.configs) epoch list.now) }
-        ensures ready { OnOk result (self.new.entries.reserved ≡
-            offset_entries name.now (fenced_count_of name.now self.old.configs) epoch list.now) }
-    {
-        let entries = offset_entries(alloc, name, self.configs().fenced_count(name), epoch, list)?;
-        self.ready_entries(alloc, entries)
-    }
+// Takes the memory of offsets of a connector and the bumps of its producers, and writes their frame.
+fn ready_offsets(
+    topics: &mut Topics,
+    alloc: Global,
+    name: &Name,
+    epoch: Epoch,
+    list: &[SetOffset],
+) -> Result<EntryFrame, AllocError>
+    ensures same { topics.new ≡ record topics.old {
+      entries = record topics.old.entries { reserved = topics.new.entries.reserved };
+    } }
+    ensures frame { IfOk result (λ frame. frame ≡
+        offset_entries name.now (fenced_count_of name.now topics.old.configs) epoch list.now) }
+    ensures ready { OnOk result (topics.new.entries.reserved ≡
+        offset_entries name.now (fenced_count_of name.now topics.old.configs) epoch list.now) }
+{
+    let entries = offset_entries(
+        alloc,
+        name,
+        topics.configs().fenced_count(name),
+        epoch,
+        list,
+    )?;
+    topics.ready_entries(alloc, entries)
 }
 
 // How far a leader has fenced a connector's older tasks.

@@ -8,59 +8,38 @@
 //! put_sink, raw_init and raw_commit of the transaction log; append_config and append_fence of the config log;
 //! put_status of the status log; produce, and the marks of the data log; put_offsets, and the marks of the offset log;
 //! and the compactions of the config, the status and the offset log.
-//! It stands on the model and on the pieces whose states it keeps.
+//! It stands on the model, on the logs as they are kept in memory, and on the pieces whose states it keeps.
 #![tactic(auto)]
 
 mod agreeing;
 mod batches;
 mod cluster;
 mod compacting;
-mod config_frame;
 mod config_log;
-mod configs;
 mod crew;
-mod data_frame;
-mod data_log;
-mod entries;
 mod fenced;
 mod fencing_record;
-mod frame;
 mod items;
 mod joining;
 mod journaling;
 mod leading;
-mod left_offsets;
 mod lookups;
 mod marking;
 mod numbers;
 mod offering;
-mod offset_frame;
-mod offset_log;
-mod offset_topic;
 mod opened;
 mod planning;
 mod producing;
 mod raw;
-mod replaying;
 mod reporting;
 mod rounds;
 mod running;
 mod sinks;
 mod sizes;
 mod sources;
-mod status_frame;
-mod status_log;
 mod steps;
-mod topics;
 mod workers;
 mod writes;
 
 pub use cluster::Cluster;
-pub use config_frame::ConfigFrame;
-pub use data_frame::DataFrame;
-pub use frame::EntryFrame;
 pub use leading::FenceFrame;
-pub use left_offsets::LeftOffsetLog;
-pub use offset_frame::OffsetFrame;
-pub use status_frame::StatusFrame;
-pub use topics::{Sides, Topics};

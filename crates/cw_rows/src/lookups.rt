@@ -3,7 +3,7 @@ ghost use Rattle.std.specs.Prelude.{◌≡◌, ◌-◌, ◌^◌, ◌<◌, length
 ghost use Rattle.cw_data.specs.Log.{stable};
 ghost use Rattle.cw_model.specs.EventsMarking.{unmarked_in};
 ghost use Rattle.cw_rows.specs.Crew.{numbers_at};
-ghost use Rattle.cw_rows.specs.Statuses.{plain};
+ghost use Rattle.cw_topics.specs.Statuses.{plain};
 
 use crate::cluster::Cluster;
 use cw_config::ConfigRecord;
@@ -39,14 +39,14 @@ impl Cluster {
     pub fn status_state(&self) -> &StatusState
         ensures { result.now.applied ≡ plain self.now.state.statuses }
     {
-        self.topics.statuses.state()
+        self.topics.statuses()
     }
 
     /// How many statuses were reported since the cluster was opened, with those that it found; at most 2^64 - 1.
     pub fn status_count(&self) -> u64
         ensures { result ≡ min (length self.now.state.statuses) (2 ^ 64 - 1) }
     {
-        self.topics.statuses.count()
+        self.topics.status_count()
     }
 
     /// How many records of the config log were told since the cluster was opened, with those that it found.

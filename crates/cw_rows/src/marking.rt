@@ -13,12 +13,11 @@ ghost use Rattle.cw_rows.specs.Offsets.{offset_marker};
 ghost use Rattle.cw_rows.specs.Writes.{bytes_in, Readies, Refuses, Puts};
 
 use crate::cluster::Cluster;
-use crate::data_frame::DataFrame;
-use crate::offset_frame::OffsetFrame;
 use cw_bytes::Mark;
 use cw_data::DataEntry;
 use cw_model::WorldFault;
 use cw_offset::OffsetEntry;
+use cw_topics::{DataFrame, OffsetFrame};
 use cw_types::Tag;
 
 impl Cluster {
@@ -92,7 +91,7 @@ impl Cluster {
         ensures { option_copied result ≡ unmarked_in log.Offsets self.now.state }
     {
         self.topics
-            .offsets
+            .offsets()
             .first_unmarked(self.topics.coordinator())
     }
 

@@ -16,17 +16,18 @@ ghost use Rattle.cw_model.specs.Tasks.{tag_of, span_of};
 ghost use Rattle.cw_model.specs.Updates.{next_offset};
 ghost use Rattle.cw_model.specs.declared.fault.WorldFault.{WorldFault as FaultValue};
 ghost use Rattle.cw_model.specs.declared.fault.WorldFault.TheVariants as fault;
-ghost use Rattle.cw_rows.specs.Offsets.{IsNext, offered, record_at};
+ghost use Rattle.cw_topics.specs.Offsets.{IsNext};
+ghost use Rattle.cw_rows.specs.Offsets.{offered, record_at};
 ghost use Rattle.cw_rows.specs.Producing.{writing_test};
 ghost use Rattle.cw_rows.specs.Writes.{bytes_in, Readies, Refuses, Puts};
 
 use crate::cluster::Cluster;
-use crate::offset_frame::OffsetFrame;
 use crate::sources::span_of;
 use cw_bytes::Applied;
 use cw_keys::{write_offset, write_part};
 use cw_model::{Instance, InstancePhase, WorldFault};
 use cw_offset::{OffsetEntry, write_offsets};
+use cw_topics::OffsetFrame;
 use cw_types::{Listed, LogName, Span, Tag};
 use std::alloc::{AllocError, Global};
 

@@ -15,10 +15,10 @@ ghost use Rattle.cw_rows.specs.Writes.{bytes_in, Readies, Refuses, Puts};
 
 use crate::batches::{batch_of, tag_of, test_cut};
 use crate::cluster::Cluster;
-use crate::data_frame::DataFrame;
 use crate::sizes::short_batch;
 use cw_data::{Batch, DataEntry};
 use cw_model::{Cut, InstancePhase, WorldFault};
+use cw_topics::DataFrame;
 use cw_types::Tag;
 
 impl Cluster {

@@ -22,9 +22,8 @@ ghost use Rattle.cw_rows.specs.Writes.{bytes_in, Readies, Refuses, Puts};
 
 use crate::cluster::Cluster;
 use crate::fenced::test_epoch;
-use crate::frame::{EntryFrame, spans_of};
-use crate::topics::Topics;
 use cw_model::WorldFault;
+use cw_topics::{EntryFrame, Topics, spans_of};
 use cw_txn::{Coordinator, Entry};
 use cw_types::{Epoch, Listed, PartKey, Span, Tag, Tid};
 use std::alloc::{AllocError, Global};
@@ -76,7 +75,7 @@ impl Cluster {
         ensures ready { IfOk result (λ frame. self.new.ready ≡ frame) }
     {
         let spans = self.raw_spans(n, epoch, list)?;
-        let Ok(frame) = self.topics.ready_raw_commit(self.alloc, n, epoch, spans) else {
+        let Ok(frame) = ready_raw_commit(&mut self.topics, self.alloc, n, epoch, spans) else {
             return Err(WorldFault::Memory);
         };
         Ok(frame)
@@ -122,36 +121,34 @@ impl Cluster {
     }
 }
 
-impl Topics {
-    // Takes the memory of a script's producer's commit, and writes its frame.
-    fn ready_raw_commit(
-        &mut self,
-        alloc: Global,
-        n: u32,
-        epoch: Epoch,
-        spans: Vec<Span>,
-    ) -> Result<EntryFrame, AllocError>
-        requires { length spans.items ≤ 16 }
-        ensures same { self.new ≡ record self.old {
-          entries = record self.old.entries { reserved = self.new.entries.reserved };
-        } }
-        ensures frame { IfOk result (λ frame. frame ≡
-            raw_commit_of n epoch spans.items self.old.entries.entries ∷ []) }
-        ensures ready { OnOk result (self.new.entries.reserved ≡
-            raw_commit_of n epoch spans.items self.old.entries.entries ∷ []) }
-    {
-        let tag = Tag {
-            number: self.coordinator.length(),
-            epoch,
-            tid: Tid::Raw(n),
-        };
-        let entry = Entry::Commit {
-            tag,
-            generation: 0,
-            spans: Listed::new(spans),
-        };
-        self.ready_entry(alloc, entry)
-    }
+// Takes the memory of a script's producer's commit, and writes its frame.
+fn ready_raw_commit(
+    topics: &mut Topics,
+    alloc: Global,
+    n: u32,
+    epoch: Epoch,
+    spans: Vec<Span>,
+) -> Result<EntryFrame, AllocError>
+    requires { length spans.items ≤ 16 }
+    ensures same { topics.new ≡ record topics.old {
+      entries = record topics.old.entries { reserved = topics.new.entries.reserved };
+    } }
+    ensures frame { IfOk result (λ frame. frame ≡
+        raw_commit_of n epoch spans.items topics.old.entries.entries ∷ []) }
+    ensures ready { OnOk result (topics.new.entries.reserved ≡
+        raw_commit_of n epoch spans.items topics.old.entries.entries ∷ []) }
+{
+    let tag = Tag {
+        number: topics.coordinator().length(),
+        epoch,
+        tid: Tid::Raw(n),
+    };
+    let entry = Entry::Commit {
+        tag,
+        generation: 0,
+        spans: Listed::new(spans),
+    };
+    topics.ready_entry(alloc, entry)
 }
 
 // The spans of parts from their ends on up to new ones.

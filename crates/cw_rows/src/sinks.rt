@@ -14,10 +14,9 @@ ghost use Rattle.cw_rows.specs.Writes.{bytes_in, Readies, Refuses, Puts};
 
 use crate::cluster::Cluster;
 use crate::crew::cut_of;
-use crate::frame::EntryFrame;
 use crate::sources::part_at;
-use crate::topics::Topics;
 use cw_model::{Instance, WorldFault};
+use cw_topics::{EntryFrame, Topics};
 use cw_txn::{Entry, SetOffset};
 use cw_types::{Epoch, Listed, Tid};
 use std::alloc::{AllocError, Global};
@@ -34,10 +33,13 @@ impl Cluster {
         ensures ready { IfOk result (λ frame. self.new.ready ≡ frame) }
     {
         let tid = self.producer(i)?;
-        let Ok(frame) = self
-            .topics
-            .ready_sink_offset(self.alloc, self.crew.instance(i), tid, to)
-        else {
+        let Ok(frame) = ready_sink_offset(
+            &mut self.topics,
+            self.alloc,
+            self.crew.instance(i),
+            tid,
+            to,
+        ) else {
             return Err(WorldFault::Memory);
         };
         Ok(frame)
@@ -59,25 +61,23 @@ impl Cluster {
     }
 }
 
-impl Topics {
-    // Takes the memory of the offset of the topic that a sink took last, and writes its frame.
-    fn ready_sink_offset(
-        &mut self,
-        alloc: Global,
-        own: &Instance,
-        tid: Tid,
-        to: u64,
-    ) -> Result<EntryFrame, AllocError>
-        requires { tid ≡ tid_of own.now.item }
-        ensures same { self.new ≡ record self.old {
-          entries = record self.old.entries { reserved = self.new.entries.reserved };
-        } }
-        ensures frame { IfOk result (λ frame. frame ≡ sink_offset own.now to ∷ []) }
-        ensures ready { OnOk result (self.new.entries.reserved ≡ sink_offset own.now to ∷ []) }
-    {
-        let entry = sink_offset(alloc, own, tid, to)?;
-        self.ready_entry(alloc, entry)
-    }
+// Takes the memory of the offset of the topic that a sink took last, and writes its frame.
+fn ready_sink_offset(
+    topics: &mut Topics,
+    alloc: Global,
+    own: &Instance,
+    tid: Tid,
+    to: u64,
+) -> Result<EntryFrame, AllocError>
+    requires { tid ≡ tid_of own.now.item }
+    ensures same { topics.new ≡ record topics.old {
+      entries = record topics.old.entries { reserved = topics.new.entries.reserved };
+    } }
+    ensures frame { IfOk result (λ frame. frame ≡ sink_offset own.now to ∷ []) }
+    ensures ready { OnOk result (topics.new.entries.reserved ≡ sink_offset own.now to ∷ []) }
+{
+    let entry = sink_offset(alloc, own, tid, to)?;
+    topics.ready_entry(alloc, entry)
 }
 
 // The entry that sets the offset of the topic that a sink took last.

@@ -22,9 +22,8 @@ ghost use Rattle.cw_rows.specs.Writes.{bytes_in, Readies, Refuses, Puts};
 
 use crate::cluster::Cluster;
 use crate::crew::cut_of;
-use crate::frame::{EntryFrame, spans_of};
-use crate::topics::Topics;
 use cw_model::{Instance, WorldFault};
+use cw_topics::{EntryFrame, Topics, spans_of};
 use cw_txn::Entry;
 use cw_types::{Epoch, Listed, PartKey, Span, Tag, Tid};
 use std::alloc::{AllocError, Global};
@@ -76,9 +75,7 @@ impl Cluster {
         ensures ready { IfOk result (λ frame. self.new.ready ≡ frame) }
     {
         let tid = self.producer(i)?;
-        let Ok(frame) = self
-            .topics
-            .ready_commit(self.alloc, self.crew.instance(i), tid)
+        let Ok(frame) = ready_commit(&mut self.topics, self.alloc, self.crew.instance(i), tid)
         else {
             return Err(WorldFault::Memory);
         };
@@ -102,24 +99,22 @@ impl Cluster {
     }
 }
 
-impl Topics {
-    // Takes the memory of a task's commit, and writes its frame.
-    fn ready_commit(
-        &mut self,
-        alloc: Global,
-        own: &Instance,
-        tid: Tid,
-    ) -> Result<EntryFrame, AllocError>
-        requires { tid ≡ tid_of own.now.item }
-        ensures same { self.new ≡ record self.old {
-          entries = record self.old.entries { reserved = self.new.entries.reserved };
-        } }
-        ensures frame { IfOk result (λ frame. frame ≡ commit_of own.now ∷ []) }
-        ensures ready { OnOk result (self.new.entries.reserved ≡ commit_of own.now ∷ []) }
-    {
-        let entry = commit_of(alloc, own, tid)?;
-        self.ready_entry(alloc, entry)
-    }
+// Takes the memory of a task's commit, and writes its frame.
+fn ready_commit(
+    topics: &mut Topics,
+    alloc: Global,
+    own: &Instance,
+    tid: Tid,
+) -> Result<EntryFrame, AllocError>
+    requires { tid ≡ tid_of own.now.item }
+    ensures same { topics.new ≡ record topics.old {
+      entries = record topics.old.entries { reserved = topics.new.entries.reserved };
+    } }
+    ensures frame { IfOk result (λ frame. frame ≡ commit_of own.now ∷ []) }
+    ensures ready { OnOk result (topics.new.entries.reserved ≡ commit_of own.now ∷ []) }
+{
+    let entry = commit_of(alloc, own, tid)?;
+    topics.ready_entry(alloc, entry)
 }
 
 // What a task commits.

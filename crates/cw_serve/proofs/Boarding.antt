@@ -22,7 +22,7 @@ use Rattle.cw_model.specs.ConfigsAllowed.{IsAllowedConfig, AreAllowedConfigs}
 use Rattle.cw_model.specs.Grows.{Grows}
 use Rattle.cw_model.specs.Lookups.{row_of}
 use Rattle.cw_model.specs.State.{Cluster}
-use Rattle.cw_rows.specs.Configs.{IsWritableRecord}
+use Rattle.cw_topics.specs.Configs.{IsWritableRecord}
 use Rattle.cw_serve.specs.Boarding.{IsBoarded}
 
 -- ---- the next records of the config log

@@ -5,7 +5,7 @@ ghost use Rattle.std.specs.List.{AllByRecursion};
 ghost use Rattle.cw_keys.specs.Configs.{is_record};
 ghost use Rattle.cw_model.specs.Bodies.{config_applied};
 ghost use Rattle.cw_model.specs.Lookups.{row_of};
-ghost use Rattle.cw_rows.specs.Configs.{IsWritableRecord};
+ghost use Rattle.cw_topics.specs.Configs.{IsWritableRecord};
 ghost use Rattle.cw_serve.specs.Boarding.{IsBoarded};
 
 use crate::naming::Begun;

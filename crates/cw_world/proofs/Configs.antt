@@ -17,7 +17,8 @@ use Rattle.cw_model.specs.Lookups.{no_row}
 use Rattle.cw_model.specs.Updates.{stamped, next_config, changes_row}
 use Rattle.cw_laws.specs.Laws.{Keeps}
 use Rattle.cw_laws.proofs.CompactConfigs.{accepted-allowed}
-use Rattle.cw_rows.specs.Configs.{HaveRead, have_offsets, newest_test}
+use Rattle.cw_topics.specs.Configs.{have_offsets}
+use Rattle.cw_rows.specs.Configs.{HaveRead, newest_test}
 use Rattle.cw_rows.specs.Kept.{Kept}
 use Rattle.cw_rows.specs.Tests.{leader_test}
 use Rattle.cw_rows.specs.Writes.{bytes_in}

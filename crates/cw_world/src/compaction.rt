@@ -12,7 +12,7 @@ ghost use Rattle.cw_model.specs.declared.fault.WorldFault.TheVariants as fault;
 ghost use Rattle.cw_model.specs.Bodies.{config_length, offsets_length, status_length};
 ghost use Rattle.cw_model.specs.EventsCompaction.{compact, MayCompact};
 ghost use Rattle.cw_model.specs.Facts.{AreFacts};
-ghost use Rattle.cw_rows.specs.Left.{IsLeftLog};
+ghost use Rattle.cw_topics.specs.Left.{IsLeftLog};
 ghost use Rattle.cw_rows.specs.Writes.{bytes_in};
 ghost use Rattle.cw_world.specs.Logs.{IsOpenLog, view_of_pair};
 ghost use Rattle.cw_world.specs.Rewrite.{IsRewrite, MayTurn};
@@ -26,7 +26,8 @@ use cw_laws::logs_keep_facts;
 use cw_log::{BodyLog, CompactFault};
 use cw_model::WorldFault;
 use cw_pair::PairLog;
-use cw_rows::{Cluster, LeftOffsetLog};
+use cw_rows::Cluster;
+use cw_topics::LeftOffsetLog;
 use cw_types::LogName;
 
 impl<D: Disk> World<D> {

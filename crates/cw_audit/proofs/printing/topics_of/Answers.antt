@@ -9,7 +9,7 @@ use Rattle.cw_model.specs.ConfigsAllowed.{AreAllowedConfigs}
 use Rattle.cw_txn.specs.Allowed.{IsAllowedBehind}
 use Rattle.cw_txn.specs.Legal.{ChainsBehind}
 use Rattle.cw_txn.specs.declared.entry.Entry.{Entry}
-use Rattle.cw_rows.specs.Kept.{TopicsState}
+use Rattle.cw_topics.specs.Topics.{TopicsState}
 use Rattle.cw_open.proofs.ReopenLemmas.{configs-may, entries-may, entries-chain}
 use Rattle.cw_audit.proofs.printing.topics_of.Goals as goal
 

@@ -1,4 +1,4 @@
-use Rattle.std.proofs.Common.{◌≡◌, ℕ, ◌∷◌, [], ◌++◌, List, sym, ◌∙◌, ap}
+use Rattle.std.proofs.Common.{ℕ, ◌∷◌, [], ◌++◌, List, sym, ◌∙◌, ap}
 use Rattle.cw_rest.specs.Operations.{bumps_of}
 use Rattle.cw_txn.specs.declared.entry.Entry.{Entry}
 use Rattle.cw_rows.proofs.Bumps.{bump_at, bumps-more}

@@ -1,4 +1,3 @@
-use Rattle.std.proofs.Common.{◌≡◌}
 use Rattle.cw_rows.proofs.raw.spans_in.Goals as goal
 
 pub returns-in-Some : goal.returns-in-Some

@@ -1,4 +1,4 @@
-use Rattle.std.proofs.Common.{◌<◌, true, Some, length, get_or, sym, ap, ◌∙◌}
+use Rattle.std.proofs.Common.{◌<◌, Some, length, get_or, sym, ap, ◌∙◌}
 use Rattle.std.proofs.lemmas.List.{get_or_default}
 use Rattle.std.proofs.lemmas.Bool.Decides.{same_from_decides}
 use Rattle.cw_assign.specs.Items.{same_item}

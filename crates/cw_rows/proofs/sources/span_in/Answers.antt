@@ -1,5 +1,4 @@
-use Rattle.std.proofs.Common.{◌≡◌, ◌∷◌, [], List, Some}
-use Rattle.cw_types.specs.declared.ids.Span.{Span}
+use Rattle.std.proofs.Common.{◌≡◌, ◌∷◌, []}
 use Rattle.cw_rows.proofs.sources.span_in.Goals as goal
 
 pub returns-in-Some : goal.returns-in-Some

@@ -1,7 +1,7 @@
 use Rattle.std.proofs.Common.{◌∙◌, refl, ap, Option, option_map}
 use Rattle.cw_keys.specs.Configs.{config_text}
 use Rattle.cw_keys.specs.declared.config_value.ConfigValue.{ConfigValue}
-use Rattle.cw_rows.proofs.ConfigFrames.{copied-texts}
+use Rattle.cw_topics.proofs.ConfigFrames.{copied-texts}
 use Rattle.cw_serve.proofs.publishing.applied_one.Goals as goal
 
 pub returns-in-Ok : goal.returns-in-Ok

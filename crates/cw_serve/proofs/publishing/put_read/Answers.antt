@@ -4,7 +4,7 @@ use Rattle.std.proofs.lemmas.List.{get_or_read}
 use Rattle.cw_config.specs.declared.records.ConfigRecord.{ConfigRecord}
 use Rattle.cw_laws.proofs.Workers.{sound_at}
 use Rattle.cw_model.specs.Bodies.{config_applied}
-use Rattle.cw_rows.specs.Configs.{IsWritableRecord}
+use Rattle.cw_topics.specs.Configs.{IsWritableRecord}
 use Rattle.cw_serve.proofs.Boarding.{writable-part, allowed-part, takes-all, puts-all, puts-some, fits-some}
 use Rattle.cw_serve.proofs.publishing.put_read.Goals as goal
 

@@ -1,11 +1,11 @@
-use Rattle.std.proofs.Common.{◌≡◌, List, sym, ap, subst, ◌∙◌}
+use Rattle.std.proofs.Common.{◌≡◌, List, sym, subst}
 use Rattle.std.specs.List.{AllByRecursion}
 use Rattle.cw_bytes.specs.Frames.{joined}
 use Rattle.cw_offset.specs.Body.{HasRecords}
 use Rattle.cw_offset.specs.Compaction.{compact_offsets}
 use Rattle.cw_txn.specs.declared.entry.Entry.{Entry}
 use Rattle.cw_rows.specs.Kept.{Kept}
-use Rattle.cw_rows.specs.Left.{IsLeftLog}
+use Rattle.cw_topics.specs.Left.{IsLeftLog}
 use Rattle.cw_rows.proofs.cluster.Cluster.left_offsets.Goals as goal
 
 pub left_offsets-requires-clause-whole : goal.left_offsets-requires-clause-whole

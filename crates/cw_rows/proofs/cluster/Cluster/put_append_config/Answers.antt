@@ -1,10 +1,9 @@
 use Rattle.std.proofs.Common.{◌∙◌, ap, sym, subst, ◌<◌, ◌^◌, length}
-use Rattle.cw_config.specs.Compaction.{AreAccepted}
 use Rattle.cw_model.specs.Updates.{with_configs, next_config, stamp_of}
 use Rattle.cw_rows.specs.Configs.{HaveRead}
 use Rattle.cw_rows.specs.Kept.{Kept}
 use Rattle.cw_rows.proofs.ConfigDue.{append_config-puts, still-read}
-use Rattle.cw_rows.proofs.ConfigFrames.{first-at}
+use Rattle.cw_topics.proofs.ConfigFrames.{first-at}
 use Rattle.cw_rows.proofs.Few.{few}
 use Rattle.cw_bytes.specs.Spelling.{records_bytes}
 use Rattle.cw_rows.proofs.cluster.Cluster.put_append_config.Goals as goal

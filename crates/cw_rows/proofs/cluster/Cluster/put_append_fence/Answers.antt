@@ -7,7 +7,7 @@ use Rattle.cw_model.specs.Updates.{with_configs, changes_row, next_config, stamp
 use Rattle.cw_rows.specs.Configs.{HaveRead}
 use Rattle.cw_rows.specs.Kept.{Kept}
 use Rattle.cw_rows.proofs.ConfigDue.{append_fence-puts, still-read, row-changed}
-use Rattle.cw_rows.proofs.ConfigFrames.{first-at}
+use Rattle.cw_topics.proofs.ConfigFrames.{first-at}
 use Rattle.cw_rows.proofs.Few.{few}
 use Rattle.cw_bytes.specs.Spelling.{records_bytes}
 use Rattle.cw_rows.proofs.cluster.Cluster.put_append_fence.Goals as goal

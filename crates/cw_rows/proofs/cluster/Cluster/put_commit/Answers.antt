@@ -10,7 +10,7 @@ use Rattle.cw_model.specs.Updates.{with_entries, changes_instance}
 use Rattle.cw_rows.specs.Kept.{Kept}
 use Rattle.cw_rows.proofs.Due.{producer-runs}
 use Rattle.cw_rows.proofs.Halves.{commit-puts}
-use Rattle.cw_rows.proofs.Putting.{each-behind}
+use Rattle.cw_topics.proofs.Putting.{each-behind}
 use Rattle.cw_rows.proofs.Few.{few}
 use Rattle.cw_txn.specs.Body.{entries_bytes}
 use Rattle.cw_rows.proofs.cluster.Cluster.put_commit.Goals as goal

@@ -1,4 +1,4 @@
-use Rattle.std.proofs.Common.{ℕ, ◌∙◌, ap, ◌<◌, ◌^◌, length, subst, sym}
+use Rattle.std.proofs.Common.{◌∙◌, ap, ◌<◌, ◌^◌, length, subst, sym}
 use Rattle.cw_types.specs.declared.ids.Epoch.{Epoch}
 use Rattle.cw_types.specs.declared.ids.Tid.{Tid}
 use Rattle.cw_model.specs.declared.row.Fencing.{Fencing}

@@ -1,7 +1,6 @@
 use Rattle.std.proofs.Common.{◌≡◌, false, [], sym, ap, subst, ◌<◌, ◌^◌, length}
 use Rattle.cw_txn.specs.Allowed.{IsAllowedBehind}
 use Rattle.cw_txn.specs.Legal.{EachFrom, ChainsBehind}
-use Rattle.cw_model.specs.declared.instance.Instance.{Instance}
 use Rattle.cw_model.specs.Lookups.{instance_of}
 use Rattle.cw_model.specs.Phases.{is_ended}
 use Rattle.cw_model.specs.declared.instance.InstancePhase.TheVariants.{Polling}
@@ -10,7 +9,7 @@ use Rattle.cw_model.specs.Updates.{with_entries, changes_instance}
 use Rattle.cw_rows.specs.Kept.{Kept}
 use Rattle.cw_rows.proofs.Due.{producer-runs}
 use Rattle.cw_rows.proofs.Halves.{put_sink-puts}
-use Rattle.cw_rows.proofs.Putting.{each-behind}
+use Rattle.cw_topics.proofs.Putting.{each-behind}
 use Rattle.cw_rows.proofs.Few.{few}
 use Rattle.cw_txn.specs.Body.{entries_bytes}
 use Rattle.cw_rows.proofs.cluster.Cluster.put_put_sink.Goals as goal

@@ -2,7 +2,8 @@ use Rattle.std.proofs.Common.{sym, ap, ◌∙◌, ◌<◌, ◌^◌, length, subs
 use Rattle.cw_keys.specs.declared.state.State.{State}
 use Rattle.cw_model.specs.State.{StampedStatus}
 use Rattle.cw_rows.specs.Kept.{Kept}
-use Rattle.cw_rows.specs.Statuses.{next_in, with_reports}
+use Rattle.cw_topics.specs.Statuses.{next_in}
+use Rattle.cw_rows.specs.Statuses.{with_reports}
 use Rattle.cw_rows.proofs.StatusLemmas.{status-puts, state-reported}
 use Rattle.cw_rows.proofs.Few.{few}
 use Rattle.cw_bytes.specs.Spelling.{records_bytes}

@@ -1,4 +1,4 @@
-use Rattle.std.proofs.Common.{ℕ, [], map, sym, ap, subst, ◌<◌, ◌^◌, length, ◌∙◌}
+use Rattle.std.proofs.Common.{[], map, sym, ap, subst, ◌<◌, ◌^◌, length, ◌∙◌}
 use Rattle.cw_types.specs.declared.ids.Tag.{Tag}
 use Rattle.cw_types.specs.declared.ids.Tid.TheVariants.{Raw}
 use Rattle.cw_txn.specs.Allowed.{IsAllowedBehind}
@@ -8,7 +8,7 @@ use Rattle.cw_model.specs.Lookups.{list_end}
 use Rattle.cw_model.specs.Updates.{with_entries}
 use Rattle.cw_rows.specs.Kept.{Kept}
 use Rattle.cw_rows.proofs.Halves.{raw_commit-puts}
-use Rattle.cw_rows.proofs.Putting.{each-behind}
+use Rattle.cw_topics.proofs.Putting.{each-behind}
 use Rattle.cw_rows.proofs.Few.{few}
 use Rattle.cw_txn.specs.Body.{entries_bytes}
 use Rattle.cw_rows.proofs.cluster.Cluster.put_raw_commit.Goals as goal

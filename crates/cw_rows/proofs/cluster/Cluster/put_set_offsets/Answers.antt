@@ -4,7 +4,7 @@ use Rattle.cw_txn.specs.Legal.{EachFrom, ChainsBehind}
 use Rattle.cw_model.specs.Updates.{with_entries}
 use Rattle.cw_rows.specs.Kept.{Kept}
 use Rattle.cw_rows.proofs.Halves.{set_offsets-puts}
-use Rattle.cw_rows.proofs.Putting.{each-behind}
+use Rattle.cw_topics.proofs.Putting.{each-behind}
 use Rattle.cw_rows.proofs.Few.{few}
 use Rattle.cw_txn.specs.Body.{entries_bytes}
 use Rattle.cw_rows.proofs.cluster.Cluster.put_set_offsets.Goals as goal

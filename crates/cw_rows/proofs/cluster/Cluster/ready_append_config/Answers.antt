@@ -1,10 +1,10 @@
-use Rattle.std.proofs.Common.{◌≡◌, ◌∙◌, ap, sym, refl, subst}
+use Rattle.std.proofs.Common.{◌∙◌, ap, sym, refl, subst}
 use Rattle.std.proofs.lemmas.Result.{err_from_is_err_and}
 use Rattle.cw_model.specs.Updates.{next_config, stamp_of, stamped}
 use Rattle.cw_rows.specs.Configs.{IsUnplaced}
 use Rattle.cw_rows.specs.Kept.{Kept}
 use Rattle.cw_rows.proofs.ConfigDue.{append_config-readies, append_config-refuses, append_config-unplaced}
-use Rattle.cw_rows.proofs.ConfigFrames.{values-writable}
+use Rattle.cw_topics.proofs.ConfigFrames.{values-writable}
 use Rattle.cw_rows.proofs.cluster.Cluster.ready_append_config.Goals as goal
 
 pub returns-in_err-test_leader-clause-due : goal.returns-in_err-test_leader-clause-due

@@ -1,9 +1,7 @@
-use Rattle.std.proofs.Common.{refl, sym, ◌∙◌, ap}
+use Rattle.std.proofs.Common.{refl, sym, ap}
 use Rattle.std.proofs.lemmas.Result.{err_from_is_err_and}
 use Rattle.cw_rows.specs.Kept.{Kept}
-use Rattle.cw_rows.proofs.Due.{wants-memory}
 use Rattle.cw_rows.proofs.Halves.{claim_lead-readies, claim_lead-refuses}
-use Rattle.cw_model.specs.EventsLeading.{claim_lead}
 use Rattle.cw_rows.proofs.cluster.Cluster.ready_claim_lead.Goals as goal
 
 pub returns-in_err-test_worker-clause-due : goal.returns-in_err-test_worker-clause-due

@@ -2,10 +2,8 @@ use Rattle.std.proofs.Common.{◌∷◌, [], refl, ◌∙◌, ap}
 use Rattle.std.proofs.lemmas.Result.{err_from_is_err_and}
 use Rattle.cw_model.specs.declared.instance.Instance.{Instance}
 use Rattle.cw_model.specs.Lookups.{instance_of}
-use Rattle.cw_model.specs.EventsSources.{commit}
 use Rattle.cw_rows.specs.Entries.{commit_of}
 use Rattle.cw_rows.specs.Kept.{Kept}
-use Rattle.cw_rows.proofs.Due.{wants-memory}
 use Rattle.cw_rows.proofs.Halves.{commit-readies, commit-refuses}
 use Rattle.cw_rows.proofs.cluster.Cluster.ready_commit.Goals as goal
 

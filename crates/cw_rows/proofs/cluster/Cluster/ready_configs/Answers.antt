@@ -1,9 +1,9 @@
-use Rattle.std.proofs.Common.{◌≡◌, ◌<◌, ◌+◌, ◌^◌, List, length, sym, ap, subst, ◌∙◌}
+use Rattle.std.proofs.Common.{◌<◌, ◌+◌, ◌^◌, List, length, sym, ap, subst, ◌∙◌}
 use Rattle.cw_config.specs.Acceptance.{end_of}
 use Rattle.cw_config.specs.declared.records.ConfigRecord.{ConfigRecord}
 use Rattle.cw_model.specs.Updates.{stamp_of}
 use Rattle.cw_rows.specs.Kept.{Kept}
-use Rattle.cw_rows.proofs.ConfigFrames.{first-fits, first-lacks, offsets-lack, offsets-made}
+use Rattle.cw_topics.proofs.ConfigFrames.{first-fits, first-lacks, offsets-lack, offsets-made}
 use Rattle.cw_rows.proofs.cluster.Cluster.ready_configs.Goals as goal
 
 pub unplaced-requires-clause-none : goal.unplaced-requires-clause-none

@@ -1,13 +1,9 @@
-use Rattle.std.proofs.Common.{◌≡◌, ◌<◌, ◌∷◌, [], List, length, refl, sym, ◌∙◌, ap, subst}
+use Rattle.std.proofs.Common.{◌<◌, ◌∷◌, [], length, refl, sym, ◌∙◌, ap, subst}
 use Rattle.std.proofs.lemmas.Result.{err_from_is_err_and}
-use Rattle.cw_config.specs.declared.records.ConfigRecord.{ConfigRecord}
 use Rattle.cw_txn.specs.declared.entry.Entry.TheVariants.{Bump}
-use Rattle.cw_model.specs.declared.row.Row.{Row}
 use Rattle.cw_model.specs.declared.row.Fencing.{Fencing}
-use Rattle.cw_model.specs.EventsLeading.{fence_one, fencing_of, fenced_tid}
-use Rattle.cw_rows.specs.Entries.{fencing_in}
+use Rattle.cw_model.specs.EventsLeading.{fencing_of, fenced_tid}
 use Rattle.cw_rows.specs.Kept.{Kept}
-use Rattle.cw_rows.proofs.Due.{wants-memory}
 use Rattle.cw_rows.proofs.Halves.{fence_one-readies, fence_one-refuses, fencing-kept}
 use Rattle.cw_rows.proofs.cluster.Cluster.ready_fence_one.Goals as goal
 

@@ -5,9 +5,7 @@ use Rattle.cw_model.specs.declared.instance.Instance.{Instance}
 use Rattle.cw_model.specs.Lookups.{instance_of}
 use Rattle.cw_model.specs.Updates.{tid_of}
 use Rattle.cw_rows.specs.Kept.{Kept}
-use Rattle.cw_rows.proofs.Due.{wants-memory}
 use Rattle.cw_rows.proofs.Halves.{init-readies, init-refuses}
-use Rattle.cw_model.specs.EventsSources.{init}
 use Rattle.cw_rows.proofs.cluster.Cluster.ready_init.Goals as goal
 
 pub returns-in_err-test_instance-clause-due : goal.returns-in_err-test_instance-clause-due

@@ -1,6 +1,6 @@
 use Rattle.std.proofs.Common.{ap, ◌∙◌}
 use Rattle.cw_data.specs.declared.entry.DataEntry.TheVariants.{Batch as InBatch}
-use Rattle.cw_rows.proofs.DataDue.{readies-produce, refuses-long}
+use Rattle.cw_rows.proofs.DataDue.{readies-produce}
 use Rattle.cw_rows.proofs.cluster.Cluster.ready_produce.Goals as goal
 
 pub returns-clause-due : goal.returns-clause-due

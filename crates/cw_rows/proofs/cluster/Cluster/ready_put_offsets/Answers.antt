@@ -1,4 +1,4 @@
-use Rattle.std.proofs.Common.{◌∙◌, refl}
+use Rattle.std.proofs.Common.{◌∙◌}
 use Rattle.cw_rows.proofs.OffsetDue.{readies-offered}
 use Rattle.cw_rows.proofs.cluster.Cluster.ready_put_offsets.Goals as goal
 

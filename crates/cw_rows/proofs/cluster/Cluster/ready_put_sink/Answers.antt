@@ -2,9 +2,8 @@ use Rattle.std.proofs.Common.{◌∷◌, [], refl, ◌∙◌, ap}
 use Rattle.std.proofs.lemmas.Result.{err_from_is_err_and}
 use Rattle.cw_model.specs.declared.instance.Instance.{Instance}
 use Rattle.cw_model.specs.Lookups.{instance_of}
-use Rattle.cw_model.specs.EventsSinks.{put_sink, sink_offset}
+use Rattle.cw_model.specs.EventsSinks.{sink_offset}
 use Rattle.cw_rows.specs.Kept.{Kept}
-use Rattle.cw_rows.proofs.Due.{wants-memory}
 use Rattle.cw_rows.proofs.Halves.{put_sink-readies, put_sink-refuses}
 use Rattle.cw_rows.proofs.cluster.Cluster.ready_put_sink.Goals as goal
 

@@ -7,7 +7,8 @@ use Rattle.cw_model.specs.Updates.{is_offset}
 use Rattle.cw_rows.specs.Kept.{Kept}
 use Rattle.cw_rows.specs.Writes.{Refuses}
 use Rattle.cw_rows.proofs.Due.{wants-memory}
-use Rattle.cw_rows.proofs.StatusLemmas.{status-readies, status-refuses, status-full, record-reported, has-some}
+use Rattle.cw_topics.proofs.StatusLists.{has-some}
+use Rattle.cw_rows.proofs.StatusLemmas.{status-readies, status-refuses, status-full, record-reported}
 use Rattle.cw_rows.proofs.cluster.Cluster.ready_put_status.Goals as goal
 
 pub returns-in_err-test_worker-clause-due : goal.returns-in_err-test_worker-clause-due

@@ -1,10 +1,9 @@
-use Rattle.std.proofs.Common.{◌≡◌, unwrap_or, List, refl, sym, ◌∙◌, ap}
+use Rattle.std.proofs.Common.{unwrap_or, refl, sym, ◌∙◌, ap}
 use Rattle.std.proofs.lemmas.Result.{err_from_is_err_and}
 use Rattle.cw_types.specs.declared.ids.Epoch.{Epoch}
 use Rattle.cw_config.specs.View.{fenced_count_of}
 use Rattle.cw_rest.specs.Operations.{offset_entries}
 use Rattle.cw_model.specs.declared.row.Row.{Row}
-use Rattle.cw_model.specs.EventsLeading.{set_offsets}
 use Rattle.cw_model.specs.Lookups.{row_of}
 use Rattle.cw_rows.specs.Kept.{Kept}
 use Rattle.cw_rows.proofs.Halves.{set_offsets-readies, set_offsets-refuses}

@@ -6,9 +6,9 @@ use Rattle.cw_txn.specs.Transactions.{Transactions}
 use Rattle.cw_model.specs.declared.fault.WorldFault.TheVariants.{Full}
 use Rattle.cw_model.specs.Bodies.{config_body}
 use Rattle.cw_model.specs.Updates.{stamp_of, stamped}
-use Rattle.cw_rows.specs.Configs.{records_from}
+use Rattle.cw_topics.specs.Configs.{records_from}
 use Rattle.cw_rows.specs.Kept.{Kept}
-use Rattle.cw_rows.proofs.ConfigFrames.{body-size}
+use Rattle.cw_topics.proofs.ConfigFrames.{body-size}
 use Rattle.cw_rows.proofs.cluster.Cluster.unplaced.Goals as goal
 
 pub returns-in-Ok : goal.returns-in-Ok

@@ -3,9 +3,9 @@ use Rattle.std.proofs.lemmas.Result.{err_from_is_err_and}
 use Rattle.cw_types.specs.declared.logs.LogName.TheVariants.{Config}
 use Rattle.cw_model.specs.EventsLeading.{append_config, MayAppendConfig}
 use Rattle.cw_model.specs.Updates.{stamped, next_config, stamp_of}
-use Rattle.cw_rows.proofs.ConfigFrames.{records-count}
+use Rattle.cw_topics.proofs.ConfigFrames.{records-count}
 use Rattle.cw_config.specs.declared.records.ConfigRecord.{ConfigRecord}
-use Rattle.cw_rows.specs.Configs.{have_offsets}
+use Rattle.cw_topics.specs.Configs.{have_offsets}
 use Rattle.cw_world.specs.Logs.{logs_of}
 use Rattle.cw_world.specs.World.{WorldState}
 use Rattle.cw_world.proofs.Configs.{accepted-behind, config-room, config-grown, have-read}

@@ -3,7 +3,7 @@ use Rattle.std.proofs.lemmas.Result.{err_from_is_err_and}
 use Rattle.cw_types.specs.declared.logs.LogName.TheVariants.{Config}
 use Rattle.cw_model.specs.EventsLeading.{append_fence, MayAppendFence}
 use Rattle.cw_config.specs.declared.records.ConfigRecord.{ConfigRecord}
-use Rattle.cw_rows.specs.Configs.{have_offsets}
+use Rattle.cw_topics.specs.Configs.{have_offsets}
 use Rattle.cw_world.specs.Logs.{logs_of}
 use Rattle.cw_world.specs.World.{WorldState}
 use Rattle.cw_world.proofs.Configs.{accepted-behind, config-room, fence-grown, have-read}

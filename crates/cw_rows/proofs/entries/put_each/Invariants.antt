@@ -1,5 +1,0 @@
-use Rattle.cw_rows.proofs.Putting.{IsPut}
-use Rattle.cw_rows.proofs.entries.put_each.Given as goal
-
-abbrev pub invariant-loop-entry : goal.invariant-loop-entry
-invariant-loop-entry l = IsPut l.initial.coordinator.entries l.entries l.entry-index l.coordinator

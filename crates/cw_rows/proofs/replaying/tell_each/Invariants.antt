@@ -1,7 +1,0 @@
-use Rattle.std.proofs.Common.{◌≡◌, take}
-use Rattle.cw_rows.specs.Replaying.{told_more}
-use Rattle.cw_rows.proofs.Replays.{calls_of}
-use Rattle.cw_rows.proofs.replaying.tell_each.Given as goal
-
-abbrev pub invariant-loop-call : goal.invariant-loop-call
-invariant-loop-call l = l.state ≡ told_more (calls_of (take l.call-index l.calls)) l.initial.state

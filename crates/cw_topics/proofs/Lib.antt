@@ -1,0 +1,10 @@
+pub mod Written
+pub mod Putting
+pub mod Counts
+pub mod ConfigFrames
+pub mod Twins
+pub mod Taking
+pub mod Told
+pub mod Opening
+pub mod Replays
+pub mod StatusLists
