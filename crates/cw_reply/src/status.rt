@@ -1,5 +1,5 @@
 //! The states of connectors and tasks, as JSON.
-ghost use Rattle.std.specs.Prelude.{◌≡◌, ◌++◌, ◌∷◌, [], IfOk, map, codes, decimal, string_bytes, unwrap_or, option_map};
+ghost use Rattle.std.specs.Prelude.{◌≡◌, ◌++◌, ◌∷◌, [], true, IfOk, map, codes, decimal, string_bytes, unwrap_or, option_map};
 ghost use Rattle.std.specs.List.{filter_map};
 ghost use Rattle.serde_json.specs.View.{view};
 ghost use Rattle.cw_keys.specs.Statuses.{trace_data};
@@ -62,11 +62,26 @@ pub(crate) fn task_status(
     ensures { IfOk result (λ value. view value ≡ page.task_status index status.now) }
 {
     let id = worker_id(alloc, status.worker)?;
-    let (name, worker) = (status.state.name(), id.as_str());
-    if !is_failure(status.state) {
-        return json!(in alloc; {"id": index, "state": name, "worker_id": worker});
+    if is_failure(status.state) {
+        return failed_task(alloc, index, status, id.as_str());
     }
+    let (name, worker) = (status.state.name(), id.as_str());
+    json!(in alloc; {"id": index, "state": name, "worker_id": worker})
+}
+
+// That of a task that has failed, with what its worker's id is.
+fn failed_task(
+    alloc: Global,
+    index: u32,
+    status: &StatusValue,
+    worker: &str,
+) -> Result<Value, AllocError>
+    requires failed { page.is_failure status.now.state ≡ true }
+    requires worker { worker.now ≡ codes "worker-" ++ decimal status.now.worker }
+    ensures { IfOk result (λ value. view value ≡ page.task_status index status.now) }
+{
     let trace = trace_value(alloc, &status.trace)?;
+    let name = status.state.name();
     json!(in alloc; {"id": index, "state": name, "trace": trace, "worker_id": worker})
 }
 

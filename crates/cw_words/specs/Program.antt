@@ -39,6 +39,9 @@ named = record (new_app (codes "connect")) {
   top = record (new_app (codes "connect")).top { no_binary_name = true; subcommand_required = true };
 }
 
+-- with the subcommands that play a script, and that report on a stopped cluster
+abbrev pub offline : App
+offline = with_subcommand (with_subcommand named drive.top) audit.top
+
 abbrev pub program : App
-program = with_subcommand (with_subcommand (with_subcommand (with_subcommand named drive.top) audit.top)
-    generating.top) serving.top
+program = with_subcommand (with_subcommand offline generating.top) serving.top

@@ -1,7 +1,7 @@
 //! The definition that `clap` is given of the program.
 ghost use Rattle.std.specs.Prelude.{◌≡◌, IfOk};
 ghost use Rattle.clap.specs.Words.{app_of, rule_of};
-ghost use Rattle.cw_words.specs.Program.{audit, drive, generating, named, option, program, serving, value, with_shared};
+ghost use Rattle.cw_words.specs.Program.{audit, drive, generating, named, offline, option, program, serving, value, with_shared};
 
 use clap::{Arg, Command};
 use std::alloc::{AllocError, Global};
@@ -67,13 +67,20 @@ fn named<'a>(alloc: Global) -> Command<'a>
         .subcommand_required(true)
 }
 
+// The program with the subcommands that play a script, and that report on a stopped cluster.
+fn offline<'a>(alloc: Global) -> Result<Command<'a>, AllocError>
+    ensures { IfOk result (λ r. app_of r ≡ offline) }
+{
+    named(alloc)
+        .subcommand(drive(alloc)?)?
+        .subcommand(audit(alloc)?)
+}
+
 // The program with its subcommands.
 pub(crate) fn program<'a>(alloc: Global) -> Result<Command<'a>, AllocError>
     ensures { IfOk result (λ r. app_of r ≡ program) }
 {
-    named(alloc)
-        .subcommand(drive(alloc)?)?
-        .subcommand(audit(alloc)?)?
+    offline(alloc)?
         .subcommand(generating(alloc)?)?
         .subcommand(serving(alloc)?)
 }
