@@ -1,8 +1,8 @@
 //! `connect`: Kafka Connect's distributed mode over logs on files.
 //!
-//! `main` makes the adapters over the standard streams, over the folders `connect-data`, `feeds` and `out`, over the port
-//! and over the system's clock, and makes the top call, whose contract is the theorem of the whole program; it exits
-//! with the number of the call's status. It stands on cw_connect, and on the crates of the adapters.
+//! `main` makes the adapters over the standard streams, over the folders `connect-data`, `feeds` and `out`, over the
+//! port and over the system's clock, and makes the top call, whose contract is the theorem of the whole program; it
+//! exits with the number of the call's status. It stands on cw_connect, and on the crates of the adapters.
 #![tactic(auto)]
 
 use cw_connect::{Status, connect, exit_number, status_of_fault};

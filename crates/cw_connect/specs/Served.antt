@@ -123,8 +123,8 @@ pub record IsServed {D H N L : Type 0} (G : Ghosts D) (S : shelf.Ghosts H) (n : 
 
 -- either way
 abbrev pub IsServeRun : {D H U N L : Type 0} → Ghosts D → shelf.Ghosts H → listener.Ghosts N L → link.Ghosts L →
-    ServeOptions → Status → (on : H) → (old new : Disks D) → (outlet_old outlet_new : U) → (net_old net_new : N) → JournalState →
-    List ReceiptState → Type 0
+    ServeOptions → Status → (on : H) → (old new : Disks D) → (outlet_old outlet_new : U) → (net_old net_new : N) →
+    JournalState → List ReceiptState → Type 0
 IsServeRun G S n k options status on old new outlet_old outlet_new net_old net_new journal receipts =
     IsNotOpened G status ((outlet_new ≡ outlet_old) × NothingServed net_old net_new journal receipts) old new
     ⊎ IsServed G S n k options status on old new net_old net_new journal receipts

@@ -111,8 +111,8 @@ impl<J: Begun, D: Disk, W: Wait + Drop> Shared<J, D, W> {
         }
     }
 
-    // Whether so many records of a worker, which a reader saw, were published by this board's writer, where nothing that
-    // was given to it is unpublished. The reader is told of what is published first, and looks once more.
+    // Whether so many records of a worker, which a reader saw, were published by this board's writer, where nothing
+    // that was given to it is unpublished. The reader is told of what is published first, and looks once more.
     fn stands(&self, reader: &mut Option<Board<J>>, w: u32, prefix: u64) -> bool
         requires worker { w < J.workers }
         requires prefix { prefix ≡ length (known_of w reader.old) }

@@ -35,8 +35,8 @@ impl<J: BoardNaming> Asked<J> {
     }
 }
 
-/// A connection's desk: it answers each call through one worker, in one turn under the lock or from the board, and lends
-/// the entry of the receipt that it kept.
+/// A connection's desk: it answers each call through one worker, in one turn under the lock or from the board, and
+/// lends the entry of the receipt that it kept.
 pub struct LockDesk<'a, J: Begun, D: Disk, R: Wait, W: Wait + Drop> {
     pub rt: &'a R,
     pub alloc: Global,

@@ -6,8 +6,8 @@
 //! isn't, that over each link which was accepted there was one connection, and that the entries of all connections are
 //! those of the receipts, and why it ended.
 //! It stands on the turns of `cw_turns`, which are made under the lock, on the line of `cw_line` in which links wait,
-//! on the connections of `cw_conn`, on the desk of `cw_desk`, and on the board of `cw_board`, from which calls that read
-//! configs are answered.
+//! on the connections of `cw_conn`, on the desk of `cw_desk`, and on the board of `cw_board`, from which calls that
+//! read configs are answered.
 #![tactic(auto)]
 
 mod accepting;

@@ -108,8 +108,8 @@ fn put_read<J: Begun, D: Disk, W: Wait + Drop>(
     }
 }
 
-/// Puts it where there is something to be put: behind it what a worker has read is published, or it answers that not all
-/// is which was given to the board.
+/// Puts it where there is something to be put: behind it what a worker has read is published, or it answers that not
+/// all is which was given to the board.
 pub fn publish_read<J: Begun, D: Disk, W: Wait + Drop>(
     alloc: Global,
     world: &World<D>,

@@ -21,9 +21,9 @@ pub enum Stop {
 }
 
 /// The world, the book that counts its journal, room for a receipt of each entry, when each worker ticked last, the
-/// mark that all links were accepted, and the first stop; beside them the board's writer, how many records of the config
-/// log were given to the board for each worker, and the mark that some of these aren't published yet. Clauses see the
-/// world, which goes on from where it began.
+/// mark that all links were accepted, and the first stop; beside them the board's writer, how many records of the
+/// config log were given to the board for each worker, and the mark that some of these aren't published yet. Clauses
+/// see the world, which goes on from where it began.
 #[derive(Drop)]
 pub struct Shared<J: Begun, D: Disk, W: Wait + Drop> {
     pub(crate) world: World<D>,

@@ -44,9 +44,9 @@ pub enum Cleaned {
 }
 
 impl<J: Begun, D: Disk, W: Wait + Drop> Shared<J, D, W> {
-    /// A herder's turn: the group lets a member go whose last tick is too long ago; else the worker ticks. A herder that
-    /// comes too late itself, as all do where the process stood still, judges nobody by what was before. What the worker
-    /// has read of the config log is published then.
+    /// A herder's turn: the group lets a member go whose last tick is too long ago; else the worker ticks. A herder
+    /// that comes too late itself, as all do where the process stood still, judges nobody by what was before. What the
+    /// worker has read of the config log is published then.
     pub fn herd(&mut self, alloc: Global, w: u32, now: u64) -> Herded
         ensures { KeepsJournal self.old.state self.new.state }
     {

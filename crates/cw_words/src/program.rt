@@ -1,7 +1,8 @@
 //! The definition that `clap` is given of the program.
 ghost use Rattle.std.specs.Prelude.{◌≡◌, IfOk};
 ghost use Rattle.clap.specs.Words.{app_of, rule_of};
-ghost use Rattle.cw_words.specs.Program.{audit, drive, generating, named, offline, option, program, serving, value, with_shared};
+ghost use Rattle.cw_words.specs.Program.{audit, drive, generating, named, offline, option, program, serving};
+ghost use Rattle.cw_words.specs.Program.{value, with_shared};
 
 use clap::{Arg, Command};
 use std::alloc::{AllocError, Global};
