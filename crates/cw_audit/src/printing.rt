@@ -17,7 +17,8 @@ use cw_disk::Disk;
 use cw_log::BodyLog;
 use cw_open::{FramesRead, JudgedDisks};
 use cw_topics::{Sides, Topics};
-use cw_types::{LogName, Name};
+use cw_txn::Entry;
+use cw_types::{Listed, LogName, Name};
 use std::alloc::{AllocError, Global};
 
 /// The report on disks that were opened and judged: what is printed of the state that they were opened to, in a group
@@ -52,11 +53,25 @@ fn write_lists(
         offsets_lines (joined frames.now.txn) ++ tasks_lines (configs_in frames.now.config)) }
 {
     let topics = topics_of(alloc, frames)?;
+    write_topics(alloc, text, group, frames.entries(), &topics)
+}
+
+// Puts what the frames of the transaction log, and what follows from them and from the config log, list.
+fn write_topics(
+    alloc: Global,
+    text: &mut Vec<u8>,
+    group: &Name,
+    frames: &[Listed<Entry>],
+    topics: &Topics,
+) -> Result<(), AllocError>
+    requires { topics.now.entries.entries ≡ joined frames.now }
+    ensures { OnOk result (text.new.items ≡ text.old.items ++ id_lines group.now (joined frames.now) ++
+        offsets_lines (joined frames.now) ++ tasks_lines topics.now.configs) }
+{
     let coordinator = topics.coordinator();
-    write_ids(alloc, text, group, frames.entries(), coordinator)?;
-    write_parts(alloc, text, frames.entries(), coordinator)?;
-    write_connectors(alloc, text, topics.records(), topics.configs())?;
-    Ok(())
+    write_ids(alloc, text, group, frames, coordinator)?;
+    write_parts(alloc, text, frames, coordinator)?;
+    write_connectors(alloc, text, topics.records(), topics.configs())
 }
 
 // What follows from the config log and the transaction log.
