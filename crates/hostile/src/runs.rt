@@ -51,16 +51,26 @@ pub(crate) fn run<R: AllocGlobal + Threads + Wait + Clock + Sync>(
     requires { 0 < piece }
 {
     let words = words_of(rt.alloc(), command)?;
+    let objects = objects_of(rt, script, piece, links, failure)?;
+    run_over(rt, &words, objects)
+}
+
+// The same over these objects.
+fn run_over<R: AllocGlobal + Threads + Wait + Clock + Sync>(
+    rt: &R,
+    words: &[String],
+    objects: Objects<'_, R>,
+) -> Result<Left, AllocError> {
     let Objects {
         mut input,
         mut output,
         mut shelf,
         outlet,
         net,
-    } = objects_of(rt, script, piece, links, failure)?;
+    } = objects;
     let outcome = connect(
         rt,
-        &words,
+        words,
         empty_disks(rt.alloc()),
         &mut input,
         &mut output,

@@ -194,12 +194,21 @@ pub(crate) fn open_image<R: AllocGlobal + Print + Threads + Wait + Clock + Sync>
 ) -> io::Result<()> {
     let (text, script) = line.split_once("; ").unwrap_or((line, ""));
     match image_named(text) {
-        Some(image) => {
-            let disks = disks_of(rt.alloc(), bases, image)?;
-            tell(rt, &play(rt, disks, script.as_bytes())?)
-        }
+        Some(image) => open_named(rt, bases, image, script.as_bytes()),
         None => println!(rt; "no image: {line}"),
     }
+}
+
+// Opens an image with a script, and prints what comes of it.
+fn open_named<R: AllocGlobal + Print + Threads + Wait + Clock + Sync>(
+    rt: &R,
+    bases: &Bases,
+    image: Image,
+    script: &[u8],
+) -> io::Result<()> {
+    let disks = disks_of(rt.alloc(), bases, image)?;
+    let left = play(rt, disks, script)?;
+    tell(rt, &left)
 }
 
 // What a run says that opened an image.

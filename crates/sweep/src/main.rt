@@ -19,8 +19,8 @@ mod script;
 mod stops;
 
 use crate::eight::DISKS;
-use crate::images::{open_image, play_bases};
-use crate::stops::{play_swept, sweep_disk};
+use crate::images::{Bases, open_image, play_bases};
+use crate::stops::{Swept, play_swept, sweep_disk};
 use std::io::{self, BufRead, BufReader};
 use std::rt::Clock;
 use std::sync::Wait;
@@ -41,8 +41,16 @@ fn open_images<R: AllocGlobal + Print + Threads + Wait + Clock + Sync>(
     lines: &[String],
 ) -> io::Result<()> {
     let bases = play_bases(rt)?;
+    open_each(rt, &bases, lines)
+}
+
+fn open_each<R: AllocGlobal + Print + Threads + Wait + Clock + Sync>(
+    rt: &R,
+    bases: &Bases,
+    lines: &[String],
+) -> io::Result<()> {
     for line in lines {
-        open_image(rt, &bases, line.as_str())?;
+        open_image(rt, bases, line.as_str())?;
     }
     Ok(())
 }
@@ -50,8 +58,15 @@ fn open_images<R: AllocGlobal + Print + Threads + Wait + Clock + Sync>(
 // Stops the script in each call of each disk.
 fn sweep_disks<R: AllocGlobal + Print + Threads + Wait + Clock + Sync>(rt: &R) -> io::Result<()> {
     let swept = play_swept(rt)?;
+    sweep_each(rt, &swept)
+}
+
+fn sweep_each<R: AllocGlobal + Print + Threads + Wait + Clock + Sync>(
+    rt: &R,
+    swept: &Swept,
+) -> io::Result<()> {
     for at in DISKS {
-        sweep_disk(rt, &swept, at)?;
+        sweep_disk(rt, swept, at)?;
     }
     Ok(())
 }

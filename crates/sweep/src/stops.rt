@@ -5,7 +5,7 @@ use crate::lists::LogFrames;
 use crate::script::{count_of_lines, first_lines, swept_script};
 use cw_disk::{Way, path_of};
 use cw_types::DiskName;
-use std::alloc::AllocError;
+use std::alloc::{AllocError, Global};
 use std::io;
 use std::rt::Clock;
 use std::sync::Wait;
@@ -85,9 +85,19 @@ fn stop_in<R: AllocGlobal + Threads + Wait + Clock + Sync>(
     fuse: u64,
 ) -> Result<Stop, AllocError> {
     let left = play(rt, disks_with(rt.alloc(), at, fuse)?, &swept.script)?;
+    judge_stop(rt, swept, at, &left)
+}
+
+// What a run came to, one of whose disks may have failed.
+fn judge_stop<R: AllocGlobal + Threads + Wait + Clock + Sync>(
+    rt: &R,
+    swept: &Swept,
+    at: DiskName,
+    left: &Left,
+) -> Result<Stop, AllocError> {
     match left.end {
         End::Done => Ok(Stop::None),
-        End::StoreFault(disk, 1) if disk == at => judge_images(rt, &swept.states, &left),
+        End::StoreFault(disk, 1) if disk == at => judge_images(rt, &swept.states, left),
         _ => Ok(Stop::Otherwise),
     }
 }
@@ -119,7 +129,17 @@ fn opens_to<R: AllocGlobal + Threads + Wait + Clock + Sync>(
     if !matches!(again.end, End::Done) {
         return Ok(false);
     }
-    let found = LogFrames::of(rt.alloc(), &again.disks)?;
+    is_around(rt.alloc(), states, line, &again)
+}
+
+// Whether the logs that a run left are those before a line or behind it.
+fn is_around(
+    alloc: Global,
+    states: &[LogFrames],
+    line: usize,
+    left: &Left,
+) -> Result<bool, AllocError> {
+    let found = LogFrames::of(alloc, &left.disks)?;
     Ok(is_at(states, line, &found) || is_at(states, line.saturating_add(1), &found))
 }
 
