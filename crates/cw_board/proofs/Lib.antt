@@ -4,4 +4,4 @@ pub mod Fronts
 pub mod Configs
 pub mod Shelved
 pub mod Written
-pub mod Readers
+pub mod Sent

@@ -114,7 +114,7 @@ fn look_all<J: BoardNaming>(rt: &impl Wait, board: Board<J>, slot: &Mutex<Option
 }
 
 // One thread puts and tells, and another looks.
-#[tactic(auto, using(crate::proofs::Readers::board_send, crate::proofs::Readers::note_send, crate::proofs::Readers::writer_send))]
+#[tactic(auto, using(crate::proofs::Sent::of_board, crate::proofs::Sent::of_note, crate::proofs::Sent::of_writer))]
 fn tell_often<J: BoardNaming + Send + Sync, R: Threads + Wait + Abort + Sync>(
     rt: &R,
     alloc: Global,
@@ -149,18 +149,25 @@ fn tell_once<J: BoardNaming, R: Wait + Abort>(
     requires workers { J.workers ≡ 1 }
 {
     let (mut writer, mut boards) = open_board::<J, &R>(alloc, rt, history, 1, 1)?;
-    let mut board = boards.pop().ok_or("a reader")?;
-    let mut state = ConfigState::new(alloc);
-    let front = put_at(&mut writer, &mut state, alloc, 0);
-    assert_eq!(rt; front, Some(1));
-    board.tell(writer.note());
-    let (prefix, board) = match board.look(0) {
-        Ok(view) => (view.prefix(), view.leave()),
-        Err(board) => (0, board),
-    };
-    drop(board);
-    assert_eq!(rt; prefix, 1);
+    let board = boards.pop().ok_or("a reader")?;
+    let first = put_first(alloc, &mut writer, board);
+    assert_eq!(rt; first, Some((1, 1)));
     Ok(())
+}
+
+// Puts the first record, and tells the reader: how much is published then, and how much the reader sees.
+fn put_first<J: BoardNaming, R: Wait + Drop>(
+    alloc: Global,
+    writer: &mut BoardWriter<J, R>,
+    board: Board<J>,
+) -> Option<(u64, u64)>
+    requires worker { 0 < J.workers }
+    requires fresh { configs_of 0 writer.old.given ≡ [] }
+{
+    let mut state = ConfigState::new(alloc);
+    let front = put_at(writer, &mut state, alloc, 0)?;
+    let (_board, seen) = look_once(board, writer.note(), PUTS);
+    Some((front, seen))
 }
 
 #[test]

@@ -187,7 +187,7 @@ pub fn span_of(alloc: Global, from: Input<'_>) -> Result<(Span, Input<'_>), Fiel
 }
 
 /// A span more behind others. One of a script's part, whose bytes are numbers, is made where it stays.
-#[tactic(auto, unfolding(crate::specs::Reading::span_at, crate::specs::Reading::part_at, crate::specs::Reading::raw_part_at,))]
+#[tactic(auto, unfolding(crate::specs::Reading::span_at, crate::specs::Reading::raw_part_at))]
 #[inline(always)]
 pub fn span_onto<'a>(
     alloc: Global,

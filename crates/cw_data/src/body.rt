@@ -62,7 +62,7 @@ fn read_values(alloc: Global, from: &mut Reader<'_>) -> Result<Listed<Listed<u8>
     Ok(Listed::new(values))
 }
 
-#[tactic(auto, unfolding(crate::specs::BodyReading::stored_at, crate::specs::BodyReading::named_at, crate::specs::BodyReading::spanned_at))]
+#[tactic(auto, unfolding(crate::specs::BodyReading::stored_at, crate::specs::BodyReading::named_at))]
 fn read_stored(alloc: Global, from: &mut Reader<'_>) -> Result<DataEntry, FieldFault>
     ensures { Gives (λ entry. (entry, from.new)) result (stored_at from.old) }
 {

@@ -65,8 +65,8 @@ impl<J: Seat, L> Acceptor<J, L> {
         line.absorb::<Part>(&mut self.pass, taker.into_pass());
     }
 
-    /// Takes the link that has waited longest, once each handler's side is absorbed. Where there is none, each link that
-    /// was pushed was taken once.
+    /// Takes the link that has waited longest, once each handler's side is absorbed. Where there is none, each link
+    /// that was pushed was taken once.
     pub fn take_left<R: Wait>(&mut self, rt: &R, line: &Line<L>) -> Option<Ticket<L>>
         requires seat { name_of line.now ≡ J.table }
         requires whole { self.old.parts ≡ 1024 }

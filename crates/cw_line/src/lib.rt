@@ -1,8 +1,8 @@
 //! The line in which accepted links wait for a connection handler.
 //!
 //! Its public contract promises that the links are numbered from 0 in the order in which they were accepted, that those
-//! taken, followed by those that wait, are those pushed, in order, and that behind the joins each was taken once, as the
-//! listener gave it.
+//! taken, followed by those that wait, are those pushed, in order, and that behind the joins each was taken once, as
+//! the listener gave it.
 //! It stands on `crossbeam_queue`'s queue under a rule, and on the listeners of cw_net.
 #![tactic(auto)]
 

@@ -56,7 +56,8 @@ impl Cluster {
         self.topics.records().len() as u64
     }
 
-    /// The records of the config log, the oldest first, with those that a compaction dropped since the cluster was opened.
+    /// The records of the config log, the oldest first, with those that a compaction dropped since the cluster was
+    /// opened.
     pub fn config_records(&self) -> &[ConfigRecord]
         ensures { result.now ≡ self.now.state.configs }
     {

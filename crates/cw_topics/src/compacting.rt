@@ -1,4 +1,5 @@
-//! What a compaction leaves of the logs (Kafka's compacted topics): it is made beside them, and then it is what they hold.
+//! What a compaction leaves of the logs (Kafka's compacted topics): it is made beside them, and then it is what they
+//! hold.
 ghost use Rattle.std.specs.Prelude.{◌≡◌, IfOk};
 ghost use Rattle.std.specs.List.{AllByRecursion};
 ghost use Rattle.cw_bytes.specs.Spelling.{AreRecords};

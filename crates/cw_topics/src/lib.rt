@@ -1,5 +1,5 @@
-//! The logs as they are kept in memory: their frames, and what follows from these: the configs, the latest statuses, the
-//! transactions, the data, and which transactions wait for a marker.
+//! The logs as they are kept in memory: their frames, and what follows from these: the configs, the latest statuses,
+//! the transactions, the data, and which transactions wait for a marker.
 //!
 //! A frame that is to be written takes all its memory first, in `ready_..`, which changes nothing that is told of the
 //! logs; once its bytes stand in its log, `put_..` hangs it to the log's frames and can't fail.

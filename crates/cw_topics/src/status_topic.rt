@@ -1,4 +1,5 @@
-//! One status more in the status log (Connect's status topic): its memory is taken, and once it stands there it is put in.
+//! One status more in the status log (Connect's status topic): its memory is taken, and once it stands there it is put
+//! in.
 ghost use Rattle.std.specs.Prelude.{◌≡◌, ◌≢◌, ◌<◌, ◌++◌, ◌∷◌, [], ◌^◌, length, true, Ok, Err, IfOk, IfErr, OnOk};
 ghost use Rattle.cw_types.specs.declared.logs.LogName.TheVariants as log;
 ghost use Rattle.cw_keys.specs.Statuses.{status_key, status_text, IsItem};

@@ -134,24 +134,9 @@ impl Topics {
           ready_configs = [];
         }) }
     {
+        let states = states_of(alloc, config, offsets, status, txn, batches, sides.offsets)?;
         let lists = lists_of(alloc, config, status, txn)?;
-        let configs = configs_in(alloc, config)?;
-        let statuses = StatusLog::opened(alloc, status)?;
-        let coordinator = coordinator_of(alloc, txn)?;
-        let offsets = OffsetLog::opened(alloc, offsets, sides.offsets, txn, &coordinator)?;
-        let data = data_of(alloc, batches)?;
-        Ok(Topics {
-            config: lists.config,
-            config_side: sides.config,
-            offsets,
-            status: lists.status,
-            status_side: sides.status,
-            txn: lists.txn,
-            statuses,
-            configs,
-            coordinator,
-            data,
-        })
+        Ok(over(lists, states, sides))
     }
 
     /// The whole config log's state.
@@ -228,6 +213,78 @@ fn lists_of(
         status: list_frames(alloc, status)?,
         txn: list_txn(alloc, txn)?,
     })
+}
+
+// What follows from the frames.
+#[derive(Drop)]
+struct States {
+    configs: Configs,
+    statuses: StatusLog,
+    coordinator: Coordinator,
+    offsets: OffsetLog,
+    data: DataState,
+}
+
+// What follows from the frames that the logs hold.
+fn states_of(
+    alloc: Global,
+    config: &[Listed<Applied>],
+    offsets: &[OffsetEntry],
+    status: &[Listed<Applied>],
+    txn: &[Listed<Entry>],
+    batches: Vec<DataEntry>,
+    offsets_side: u64,
+) -> Result<States, AllocError>
+    requires configs { AreAllowedConfigs [] (configs_in config.now) }
+    requires entries { EachFrom IsAllowedBehind [] (joined txn.now) }
+    requires chains { (part : PartKey) → EachFrom (ChainsBehind part) [] (joined txn.now) }
+    requires size { length_of (map entry_bytes batches.items) < 2 ^ 64 }
+    ensures configs { IfOk result (λ s. s.configs ≡ record { records = configs_in config.now; ready = [] }) }
+    ensures statuses { IfOk result (λ s. s.statuses ≡ record { list = statuses_in status.now; reserved = [] }) }
+    ensures coordinator { IfOk result (λ s. s.coordinator ≡ record { entries = joined txn.now; reserved = [] }) }
+    ensures offsets { IfOk result (λ s. s.offsets ≡ record {
+      frames = offsets.now;
+      side = offsets_side;
+      told = record { calls = replayed (joined txn.now) offsets.now; reserved = [] };
+    }) }
+    ensures data { IfOk result (λ s. s.data ≡ record { entries = batches.items; reserved = [] }) }
+{
+    let coordinator = coordinator_of(alloc, txn)?;
+    Ok(States {
+        configs: configs_in(alloc, config)?,
+        statuses: StatusLog::opened(alloc, status)?,
+        offsets: OffsetLog::opened(alloc, offsets, offsets_side, txn, &coordinator)?,
+        coordinator,
+        data: data_of(alloc, batches)?,
+    })
+}
+
+// The frames, and what follows from them.
+fn over(lists: Lists, states: States, sides: &Sides) -> Topics
+    ensures { result ≡ record {
+      config = record { frames = lists.config; side = sides.now.config };
+      offsets = states.offsets;
+      status = record { frames = lists.status; side = sides.now.status };
+      txn = lists.txn;
+      configs = states.configs.records;
+      statuses = states.statuses;
+      entries = states.coordinator;
+      batches = states.data;
+      ready_configs = states.configs.ready;
+    } }
+{
+    Topics {
+        config: lists.config,
+        config_side: sides.config,
+        offsets: states.offsets,
+        status: lists.status,
+        status_side: sides.status,
+        txn: lists.txn,
+        statuses: states.statuses,
+        configs: states.configs,
+        coordinator: states.coordinator,
+        data: states.data,
+    }
 }
 
 // What the records say that the frames of the config log hold.

@@ -41,7 +41,8 @@ impl Stage {
         self.open_over(put_disk(empty_disks(self.alloc), name, disk), line)
     }
 
-    /// `open-image DISK BYTES`: the same, but a disk has these bytes, of which any may be spelled as `%` and two digits.
+    /// `open-image DISK BYTES`: the same, but a disk has these bytes, of which any may be spelled as `%` and two
+    /// digits.
     pub(crate) fn open_image(&mut self, line: &mut Line<'_>) -> Made {
         let name = line.word();
         let mut bytes = Vec::new(self.alloc);

@@ -74,14 +74,14 @@ module _ (J : RattleType) (g : Naming.Ghosts J.Denot) where
   board_inside : IsSend (Board.TheInside.the_row J g)
   board_inside = search (sendable, reader_field, front_send, shelves_send, shelves_sync) depth 12
 
-  pub board_send : IsSend (Board.the_row J g)
-  board_send = search (sendable, board_inside) depth 5
+  pub of_board : IsSend (Board.the_row J g)
+  of_board = search (sendable, board_inside) depth 5
 
   note_inside : IsSend (Note.TheInside.the_row J g)
   note_inside = search (sendable, front_send) depth 12
 
-  pub note_send : IsSend (Note.the_row J g)
-  note_send = search (sendable, note_inside) depth 5
+  pub of_note : IsSend (Note.the_row J g)
+  of_note = search (sendable, note_inside) depth 5
 
 -- the two copies of a board
 module _ (P : RattleType) (p : Ghosts P.Denot (Shelves.the_row).Denot (unit-field.row).Denot) where
@@ -101,5 +101,5 @@ module _ (J R : RattleType) (g : Naming.Ghosts J.Denot) (r : IsSend R) where
   writer_inside : IsSend (BoardWriter.TheInside.the_row J R g)
   writer_inside = search (sendable, press_send, front_send, post_send, word.the_send) depth 16
 
-  pub writer_send : IsSend (BoardWriter.the_row J R g)
-  writer_send = view_send (BoardWriter.TheInside.the_row J R g) _ _ _ _ writer_inside
+  pub of_writer : IsSend (BoardWriter.the_row J R g)
+  of_writer = view_send (BoardWriter.TheInside.the_row J R g) _ _ _ _ writer_inside
