@@ -1,7 +1,7 @@
 //! The texts of a script's answers: items, logs, producers, and what a tick did.
 use cw_keys::text_of_name;
 use cw_model::Tick;
-use cw_types::{Item, LogName, Name, TaskId, Tid};
+use cw_types::{Item, LogName, Name, Tag, TaskId, Tid};
 use std::fmt;
 
 /// An item, as `c/NAME` or `t/NAME/INDEX`.
@@ -118,6 +118,36 @@ impl fmt::Display for EndText {
     }
 }
 
+/// A marker that a worker wrote, and of which transaction.
+#[derive(Clone, Copy, Drop)]
+struct MarkText<'a> {
+    group: &'a Name,
+    log: LogName,
+    tag: &'a Tag,
+    committed: bool,
+}
+
+impl fmt::Display for MarkText<'_> {
+    ghost use Rattle.std.specs.Prelude.{Some};
+    ghost use Rattle.cw_model.specs.declared.tick.Tick.TheVariants.{Mark};
+    ghost use Rattle.cw_model.specs.TickText.{tick_text};
+
+    ghost output = { λ text. Some (tick_text text.group.now (Mark text.log text.tag.now text.committed)) };
+
+    fn fmt<W: fmt::Write>(&self, f: &mut fmt::Formatter<W>) -> fmt::Result {
+        let log = LogText { log: self.log };
+        let tid = TidText {
+            group: self.group,
+            tid: &self.tag.tid,
+        };
+        let (epoch, number) = (self.tag.epoch.0, self.tag.number);
+        let end = EndText {
+            committed: self.committed,
+        };
+        write!(f, "mark {log} {tid} {epoch} {number} {end}")
+    }
+}
+
 /// What a worker's tick did in a group.
 #[derive(Clone, Copy, Drop)]
 pub(crate) struct TickText<'a> {
@@ -160,16 +190,13 @@ impl fmt::Display for TickText<'_> {
                 write!(f, "fenced {name} {offset}")
             }
             Tick::Mark(log, tag, committed) => {
-                let log = LogText { log: *log };
-                let tid = TidText {
+                let mark = MarkText {
                     group: self.group,
-                    tid: &tag.tid,
-                };
-                let (epoch, number) = (tag.epoch.0, tag.number);
-                let end = EndText {
+                    log: *log,
+                    tag,
                     committed: *committed,
                 };
-                write!(f, "mark {log} {tid} {epoch} {number} {end}")
+                write!(f, "{mark}")
             }
             Tick::Start(item, number) => {
                 let item = ItemText { item };

@@ -91,11 +91,11 @@ fn entry_of_fault(
     ensures { IfOk result (λ entry.
         entry ≡ entry_with w call (fault_reply fault.now) (lengths_in w call cluster.now.state)) }
 {
+    let Some(left) = lengths_now(cluster, w, &call) else {
+        return Err(AllocError);
+    };
     let reply = fault_reply(alloc, fault)?;
-    match lengths_now(cluster, w, &call) {
-        Some(left) => Ok(entry_with(w, call, reply, left)),
-        None => Err(AllocError),
-    }
+    Ok(entry_with(w, call, reply, left))
 }
 
 // The entry of a call that saw as much.

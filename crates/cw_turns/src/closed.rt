@@ -30,17 +30,29 @@ pub(crate) fn tell_closed<D: Disk>(
         world.old world.new result }
 {
     world.is_safe();
-    let fault = WorldFault::Closed { disk, count };
-    let Ok(reply) = fault_reply(alloc, &fault) else {
-        return Err(AllocError);
-    };
-    let Ok(entry) = entry_now(world.cluster(), w, call, reply) else {
-        return Err(AllocError);
-    };
+    let entry = entry_of_closed(alloc, world.cluster(), w, call, disk, count)?;
     match world.journal(entry) {
         Ok(receipt) => Ok(receipt),
         Err(_) => Err(AllocError),
     }
+}
+
+// The entry of a call that is told so.
+fn entry_of_closed(
+    alloc: Global,
+    cluster: &Cluster,
+    w: u32,
+    call: Call,
+    disk: DiskName,
+    count: u64,
+) -> Result<JournalEntry, AllocError>
+    requires { w < length cluster.now.state.rows }
+    ensures { IfOk result (λ entry.
+        entry ≡ entry_of w call (Err (Closed disk count)) cluster.now.state cluster.now.state) }
+{
+    let fault = WorldFault::Closed { disk, count };
+    let reply = fault_reply(alloc, &fault)?;
+    entry_now(cluster, w, call, reply)
 }
 
 // The entry of a call that sees what there is now. Statuses that are more than a number counts have none.
