@@ -1,6 +1,7 @@
 //! Calls that no table makes.
 use cw_bytes::{Reader, Writer, read_records, read_span_onto, write_span};
 use cw_types::{Name, PartKey, Span};
+use std::alloc::Global;
 use std::test::Fail;
 
 fn span(part: PartKey) -> Span {
@@ -11,20 +12,23 @@ fn span(part: PartKey) -> Span {
     }
 }
 
+// Two spans, and a byte that begins none.
+fn two_spans(alloc: Global) -> Result<Vec<u8>, Fail> {
+    let connector = Name::read(alloc, b"a")?;
+    let part = PartKey::Seq {
+        connector,
+        index: 1,
+    };
+    let mut into = Writer::new(alloc);
+    write_span(&mut into, &span(PartKey::Raw(7)))?;
+    write_span(&mut into, &span(part))?;
+    into.put_u8(9)?;
+    Ok(into.into_bytes())
+}
+
 #[test]
 fn spans_are_read_behind_others(rt: HostRuntime) -> Result<(), Fail> {
-    let connector = Name::read(rt.alloc(), b"a")?;
-    let mut into = Writer::new(rt.alloc());
-    write_span(&mut into, &span(PartKey::Raw(7)))?;
-    write_span(
-        &mut into,
-        &span(PartKey::Seq {
-            connector,
-            index: 1,
-        }),
-    )?;
-    into.put_u8(9)?;
-    let bytes = into.into_bytes();
+    let bytes = two_spans(rt.alloc())?;
     let mut from = Reader::new(bytes.as_slice());
     let mut spans = Vec::new(rt.alloc());
     read_span_onto(rt.alloc(), &mut from, &mut spans)?;

@@ -1,6 +1,7 @@
 //! Requests of any bytes, which no table of calls can hold.
 use cw_route::{Call, RouteFault, route};
 use cw_types::{Listed, Name};
+use std::process::Abort;
 use std::test::Fail;
 
 #[test]
@@ -37,17 +38,24 @@ fn named_body(call: &Call) -> Option<(&Name, &Listed<u8>)> {
     }
 }
 
+// A call of the connector `a` has this body.
+fn expect_body(rt: &impl Abort, call: &Call, bytes: &[u8]) -> Result<(), Fail> {
+    let (name, body) = named_body(call).ok_or("the call has no body")?;
+    assert_eq!(rt; name.as_bytes(), b"a".as_slice());
+    assert_eq!(rt; body.as_slice(), bytes);
+    Ok(())
+}
+
 #[test]
 fn a_body_of_any_bytes_is_kept(rt: HostRuntime) -> Result<(), Fail> {
+    let bytes = b"\xff\x00".as_slice();
     let requests: [(&[u8], &[u8]); 2] = [
         (b"PUT", b"/connectors/a/config"),
         (b"PATCH", b"/connectors/a/offsets"),
     ];
     for (method, target) in requests {
-        let call = route(rt.alloc(), method, target, b"\xff\x00")?;
-        let (name, body) = named_body(&call).ok_or("the call has no body")?;
-        assert_eq!(rt; name.as_bytes(), b"a".as_slice());
-        assert_eq!(rt; body.as_slice(), b"\xff\x00".as_slice());
+        let call = route(rt.alloc(), method, target, bytes)?;
+        expect_body(&rt, &call, bytes)?;
     }
     Ok(())
 }
