@@ -1,5 +1,6 @@
 -- A directive more: what is due in a cluster is played there.
 use Rattle.std.proofs.Common.{◌≡◌, ℕ, ◌+◌, ◌<◌, ◌≤◌, ◌^◌, List, [], ◌∷◌, ◌++◌, length, min, nat_lt, Bool, true, false, Option, Some, None, Ok, Err, if◌then◌else◌, refl, sym, ap, subst, ◌∙◌, arith, length-append}
+use Rattle.std.specs.Prelude.{Result, IfOk, IfErr}
 use Rattle.std.proofs.lemmas.Bool.Decides.{nat_tests}
 use Rattle.cw_types.specs.declared.logs.DiskName.{DiskName}
 use Rattle.cw_disk.specs.declared.device.Disk.{Ghosts}
@@ -48,6 +49,18 @@ played-so G O old new out_old out_new before after number line few short silent 
       alive = alive;
       tells = ap (λ (r : Ran). r.tells) go.state;
     }
+
+-- and forgetting its answer changes nothing of that
+pub forgotten-so : {D : Type 0} (G : Ghosts D) (p : Played Cluster) (old mid new : WorldState D) (answers : List ℕ) → HasPlayed G p old mid answers →
+    new.setting ≡ mid.setting → new.state ≡ mid.state → tell_all G new.logs ≡ tell_all G mid.logs → IsAlive G new → HasPlayed G p old new answers
+forgotten-so G p old mid new answers played same state told lives = record {
+  goes_on = played.goes_on;
+  state_is = state ∙ played.state_is;
+  text = played.text;
+  setting = same ∙ played.setting;
+  alive = lives;
+  tells = told ∙ played.tells;
+}
 
 -- ---- what is due
 
@@ -99,13 +112,12 @@ module _ (setting : Setting) (made x y : ℕ) (d : Directive) (line : List ℕ) 
   played-there : played_in setting made s x ≡ play_line setting (made + 1) line s
   played-there = ap (λ (e : Directive). play_line setting (made + 1) (spelled e) s) next-is ∙ ap (λ (l : List ℕ). play_line setting (made + 1) l s) (sym line-is)
 
-  pub turned-so : {D : Type 0} (G : Ghosts D) (fenced : ℕ) (answers : List ℕ) (old mid new : WorldState D) → IsPlayable d s → tell_all G old.logs ≡ true →
-      HasPlayed G (play_line setting (made + 1) line s) old mid answers → old.setting ≡ setting → fenced ≡ one_if (says_fenced d answers) →
-      new.setting ≡ mid.setting → new.state ≡ mid.state → tell_all G new.logs ≡ tell_all G mid.logs → IsAlive G new →
-      min (made + 1) 3 ≤ length (played_in setting made s x).store.rows → HasTurned G setting made s x y fenced new
-  turned-so G fenced answers old mid new plays tells played own counted same state told lives crowd =
+  turned-so : {D : Type 0} (G : Ghosts D) (fenced : ℕ) (answers : List ℕ) (old new : WorldState D) → IsPlayable d s → tell_all G old.logs ≡ true →
+      old.setting ≡ setting → min (made + 1) 3 ≤ length (played_in setting made s x).store.rows → HasPlayed G (play_line setting (made + 1) line s) old new answers →
+      fenced ≡ one_if (says_fenced d answers) → HasTurned G setting made s x y fenced new
+  turned-so G fenced answers old new plays tells own crowd played counted =
       let p : Played Cluster = play_line setting (made + 1) line s in
-      let state-is : new.state ≡ (played_in setting made s x).store = state ∙ played.state_is ∙ sym (ap (λ (q : Played Cluster). q.store) played-there) in
+      let state-is : new.state ≡ (played_in setting made s x).store = played.state_is ∙ sym (ap (λ (q : Played Cluster). q.store) played-there) in
       record {
         number_is = sym (ap (λ (n : Due). n.number) due-is);
         line = ap (λ (e : Directive). is_line (spelled e)) next-is ∙ plays.line;
@@ -113,14 +125,26 @@ module _ (setting : Setting) (made x y : ℕ) (d : Directive) (line : List ℕ) 
         state_is = state-is;
         fenced_is = counted ∙ ap (λ (t : List ℕ). one_if (says_fenced d t)) played.text ∙ sym (ap (λ (e : Directive). one_if (says_fenced e p.text)) next-is)
             ∙ sym (ap (λ (q : Played Cluster). one_if (says_fenced (next_in made s x).directive q.text)) played-there);
-        setting_is = same ∙ played.setting ∙ own;
-        alive = lives;
-        tells = told ∙ played.tells ∙ tells;
+        setting_is = played.setting ∙ own;
+        alive = played.alive;
+        tells = played.tells ∙ tells;
         crowd = subst (λ (t : Cluster). min (made + 1) 3 ≤ length t.rows) (sym state-is) crowd;
       }
 
+  pub if-turned : {D : Type 0} (G : Ghosts D) (result : Result ℕ Unfinished) (old new : WorldState D) → IsPlayable d s → tell_all G old.logs ≡ true →
+      old.setting ≡ setting → min (made + 1) 3 ≤ length (played_in setting made s x).store.rows →
+      IfOk result (λ fenced. (answers : List ℕ) × HasPlayed G (play_line setting (made + 1) line s) old new answers × (fenced ≡ one_if (says_fenced d answers))) →
+      IfOk result (λ fenced. HasTurned G setting made s x y fenced new)
+  if-turned G (Ok fenced) old new plays tells own crowd did = turned-so G fenced did.0 old new plays tells own crowd did.1 did.2
+  if-turned G (Err why) old new plays tells own crowd did = tt
+
   -- Or it ended the script.
-  pub stops-there : (why : Unfinished) → IsPlayable d s → EndsSo (play_line setting (made + 1) line s) why → StopsSo setting made s x why
+  stops-there : (why : Unfinished) → IsPlayable d s → EndsSo (play_line setting (made + 1) line s) why → StopsSo setting made s x why
   stops-there (Full log length frame) plays stop =
       (ap (λ (e : Directive). is_line (spelled e)) next-is ∙ plays.line, ap (λ (q : Played Cluster). q.stop) played-there ∙ stop)
   stops-there Memory plays stop = tt
+
+  pub if-stops : (result : Result ℕ Unfinished) → IsPlayable d s → IfErr result (EndsSo (play_line setting (made + 1) line s)) →
+      IfErr result (StopsSo setting made s x)
+  if-stops (Ok fenced) plays stop = tt
+  if-stops (Err why) plays stop = stops-there why plays stop

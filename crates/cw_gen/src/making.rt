@@ -1,7 +1,8 @@
 //! Makes a script and plays it, directive by directive.
-ghost use Rattle.std.specs.Prelude.{◌≡◌, ◌≤◌, ◌<◌, [], length, min, true, Some, None, Ok, IfOk, IfErr, OnOk};
+ghost use Rattle.std.specs.Prelude.{◌≡◌, ◌≤◌, ◌<◌, ℕ, List, [], length, min, true, Some, None, Ok, IfOk, IfErr, OnOk};
 ghost use Rattle.cw_script.specs.declared.directive.Directive.{Directive};
 ghost use Rattle.cw_script.specs.Lines.{line_of};
+ghost use Rattle.cw_script.specs.Spelling.{spelled};
 ghost use Rattle.cw_cluster.specs.Breaking.{IsAlive, tell_all};
 ghost use Rattle.cw_run.specs.Run.{missing, play_line};
 ghost use Rattle.cw_gen.specs.Playing.{EndsSo, HasPlayed, HasTurned, IsPlayable, IsSame, IsUnfinished, StandsBehind};
@@ -95,12 +96,39 @@ fn turn<K: Begun, D: Disk, U: Outlet>(
         player.old.running.world.state draws.old) }
 {
     let directive = next(alloc, player, draws, made)?;
-    let line = directive.spell(alloc)?;
     lines_are_directives();
     each_line_is_a_run();
     player.world().is_safe();
-    play(player, made + 1, line.as_slice())?;
-    let fenced = count_fenced(alloc, &directive, player.answers())?;
+    act(alloc, player, made + 1, &directive)
+}
+
+// Plays a directive, and answers how many answers, one or none, said that a step was fenced.
+fn act<K: Begun, D: Disk, U: Outlet>(
+    alloc: Global,
+    player: &mut Player<K, D, U>,
+    number: u64,
+    directive: &Directive,
+) -> Result<u64, Unfinished>
+    requires steady { (disk : D) → D.count disk ≡ 0 }
+    requires lasting { (outlet : U) → U.faults outlet ≡ 0 }
+    requires alive { IsAlive D.Disk player.old.running.world }
+    requires few { number ≤ 1000000 }
+    requires playable { IsPlayable directive.now player.old.running.world.state }
+    requires silent { player.old.answers ≡ [] }
+    ensures played { IfOk result (λ fenced. (answers : List ℕ) × HasPlayed D.Disk
+        (play_line player.old.running.world.setting number (spelled directive.now)
+        player.old.running.world.state)
+        player.old.running.world player.new.running.world answers ×
+        (fenced ≡ one_if (says_fenced directive.now answers))) }
+    ensures silent { OnOk result (player.new.answers ≡ []) }
+    ensures ends { IfErr result (EndsSo
+        (play_line player.old.running.world.setting number (spelled directive.now)
+        player.old.running.world.state)) }
+{
+    let line = directive.spell(alloc)?;
+    lines_are_directives();
+    play(player, number, line.as_slice())?;
+    let fenced = count_fenced(alloc, directive, player.answers())?;
     player.forget();
     Ok(fenced)
 }

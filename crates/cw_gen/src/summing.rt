@@ -56,14 +56,29 @@ pub(crate) fn sum_up(
     ensures ends { IfErr result (EndsSo (run_of (setting_of group delay)
         (making (setting_of group delay) start count).lines)) }
 {
+    let topic = topic(alloc)?;
     let world = open(alloc, empty_disks(alloc), group, delay)?;
-    let behind = play_all::<Brand, SteadyDisk, Nowhere>(alloc, world, Nowhere, start, count)?;
+    let behind = play_all::<Brand, SteadyDisk, Nowhere>(
+        alloc, world, Nowhere, &topic, start, count,
+    )?;
     let Behind {
         disks,
         fenced,
         records,
     } = behind;
-    let commits = count_commits(alloc, disks.txn)?;
+    let Disks {
+        config_a,
+        config_b,
+        offsets_a,
+        offsets_b,
+        status_a,
+        status_b,
+        txn,
+        batches,
+    } = disks;
+    drop((config_a, config_b, offsets_a, offsets_b));
+    drop((status_a, status_b, batches));
+    let commits = count_commits(alloc, txn)?;
     Ok(Sums {
         commits,
         fenced,
@@ -92,6 +107,7 @@ fn play_all<K: Begun, D: Disk + Drop, U: Outlet + Drop>(
     alloc: Global,
     world: World<D>,
     outlet: U,
+    topic: &Name,
     start: u64,
     count: u64,
 ) -> Result<Behind<D>, Unfinished>
@@ -104,16 +120,40 @@ fn play_all<K: Begun, D: Disk + Drop, U: Outlet + Drop>(
     requires state { world.state ≡ empty_cluster }
     requires alive { IsAlive D.Disk world }
     requires tells { tell_all D.Disk world.logs ≡ true }
+    requires topic { topic.now ≡ codes "t" }
     ensures behind { IfOk result (AreBehind D.Disk world.setting start count) }
     ensures ends { IfErr result (EndsSo (run_of world.setting (making world.setting start count).lines)) }
 {
-    let topic = topic(alloc)?;
     let running: Running<K, D, U> = Running::new(alloc, world, outlet);
-    let mut player = Player::new(running);
+    play_over(alloc, Player::new(running), topic, start, count)
+}
+
+// The same of a player over that cluster, which has answered nothing.
+fn play_over<K: Begun, D: Disk + Drop, U: Outlet + Drop>(
+    alloc: Global,
+    player: Player<K, D, U>,
+    topic: &Name,
+    start: u64,
+    count: u64,
+) -> Result<Behind<D>, Unfinished>
+    requires steady { (disk : D) → D.count disk ≡ 0 }
+    requires lasting { (outlet : U) → U.faults outlet ≡ 0 }
+    requires few { count ≤ 1000000 }
+    requires no_feeds { player.running.world.setting.feeds ≡ [] }
+    requires state { player.running.world.state ≡ empty_cluster }
+    requires alive { IsAlive D.Disk player.running.world }
+    requires tells { tell_all D.Disk player.running.world.logs ≡ true }
+    requires silent { player.answers ≡ [] }
+    requires topic { topic.now ≡ codes "t" }
+    ensures behind { IfOk result (AreBehind D.Disk player.running.world.setting start count) }
+    ensures ends { IfErr result (EndsSo (run_of player.running.world.setting
+        (making player.running.world.setting start count).lines)) }
+{
+    let mut player = player;
     match make(alloc, &mut player, start, count) {
-        Ok(fenced) => Ok(look(player, fenced, &topic)),
+        Ok(fenced) => Ok(look(player, fenced, topic)),
         Err(why) => {
-            let _ = player.into_running().give_back();
+            drop(player.into_running().give_back());
             Err(why)
         }
     }
