@@ -44,19 +44,35 @@ impl Decided for Always {
     }
 }
 
-#[test]
-fn reserved_calls_are_used_up(rt: HostRuntime) -> Result<(), Fail> {
-    let mut log = DataState::new(rt.alloc());
-    let topic = Name::read(rt.alloc(), b"t")?;
-    let first = batch(rt.alloc(), 0, &topic)?;
-    log.reserve_batch(&first)?;
+// A batch whose transaction is aborted, both of which were reserved.
+fn add_reserved(rt: &impl Abort, log: &mut DataState, batch: Batch) -> Result<(), AllocError> {
+    log.reserve_batch(&batch)?;
     log.reserve_mark(&tag(0), false)?;
-    add(&rt, &mut log, first)?;
-    log.mark(&tag(0), false)?;
-    assert_eq!(rt; log.stable(&topic), 1);
-    assert!(rt; log.take(&topic, 0).is_none());
+    add(rt, log, batch)?;
+    log.mark(&tag(0), false)
+}
+
+// The same, and a mark that is reserved and given up.
+fn use_up(
+    rt: &impl Abort,
+    log: &mut DataState,
+    topic: &Name,
+    batch: Batch,
+) -> Result<(), AllocError> {
+    add_reserved(rt, log, batch)?;
+    assert_eq!(rt; log.stable(topic), 1);
+    assert!(rt; log.take(topic, 0).is_none());
     log.reserve_mark(&tag(1), true)?;
     log.unreserve();
+    Ok(())
+}
+
+#[test]
+fn reserved_calls_are_used_up(rt: HostRuntime) -> Result<(), Fail> {
+    let topic = Name::read(rt.alloc(), b"t")?;
+    let first = batch(rt.alloc(), 0, &topic)?;
+    let mut log = DataState::new(rt.alloc());
+    use_up(&rt, &mut log, &topic, first)?;
     assert_eq!(rt; log.entries().len(), 2);
     Ok(())
 }

@@ -3,23 +3,33 @@ use cw_io::{Failed, MemLink, send_all};
 use cw_net::{
     Clock, Gate, Listener, MemClock, MemListener, OpenGate, Point, PortListener, SystemClock,
 };
+use std::alloc::Global;
 use std::collections::VecDeque;
 use std::net::TcpListener;
 use std::test::Fail;
 
-#[test]
-fn a_listener_in_memory_fails_where_told(rt: HostRuntime) -> Result<(), Fail> {
-    let alloc = rt.alloc();
+// A listener that gives two links, and whose second call fails.
+fn two_links(alloc: Global) -> Result<MemListener<MemLink>, Fail> {
     let mut links = VecDeque::new(alloc);
     for name in [b"a", b"b"] {
         links.push_back(MemLink::new(alloc, name.to_vec(alloc)?, 8, 8, Vec::new(alloc))?)?;
     }
-    let mut listener = MemListener::new(links, vec![in alloc; 1u64]?);
+    Ok(MemListener::new(links, vec![in alloc; 1u64]?))
+}
+
+// Whether a listener gives one more link.
+fn gives(listener: &mut MemListener<MemLink>) -> Result<bool, Failed> {
+    Ok(listener.accept()?.is_some())
+}
+
+#[test]
+fn a_listener_in_memory_fails_where_told(rt: HostRuntime) -> Result<(), Fail> {
+    let mut listener = two_links(rt.alloc())?;
     let mut first = listener.accept()?.ok_or("no link")?;
     assert_eq!(rt; send_all(&mut first, b"x"), Ok(()));
-    assert!(rt; listener.accept().is_err());
-    assert!(rt; listener.accept()?.is_some());
-    assert!(rt; listener.accept()?.is_none());
+    assert_eq!(rt; gives(&mut listener), Err(Failed));
+    assert_eq!(rt; gives(&mut listener), Ok(true));
+    assert_eq!(rt; gives(&mut listener), Ok(false));
     Ok(())
 }
 

@@ -63,18 +63,28 @@ fn compacted_log_says_the_same_behind_a_commit(rt: HostRuntime) -> Result<(), Fa
     Ok(())
 }
 
+// A put that is committed, both of which were reserved.
+fn put_reserved(state: &mut OffsetState, part: &PartKey) -> Result<(), AllocError> {
+    state.reserve_put(&tag(1), part, 7)?;
+    state.reserve_commit(&tag(1))?;
+    state.put(&tag(1), part, 7)?;
+    state.commit(&tag(1))
+}
+
+// An offset that is set behind one that was reserved and given up.
+fn set_unreserved(state: &mut OffsetState, part: &PartKey) -> Result<(), AllocError> {
+    state.reserve_set(part, None)?;
+    state.unreserve();
+    state.set(part, Some(9))
+}
+
 #[test]
 fn reserved_calls_are_done(rt: HostRuntime) -> Result<(), Fail> {
     let mut state = OffsetState::new(rt.alloc());
     let part = PartKey::Raw(3);
-    state.reserve_put(&tag(1), &part, 7)?;
-    state.reserve_commit(&tag(1))?;
-    state.put(&tag(1), &part, 7)?;
-    state.commit(&tag(1))?;
+    put_reserved(&mut state, &part)?;
     assert_eq!(rt; state.committed(&part), Some(7));
-    state.reserve_set(&part, None)?;
-    state.unreserve();
-    state.set(&part, Some(9))?;
+    set_unreserved(&mut state, &part)?;
     assert_eq!(rt; state.committed(&part), Some(9));
     Ok(())
 }

@@ -10,13 +10,19 @@ use std::net::{TcpListener, TcpStream};
 use std::test::Fail;
 
 #[test]
-fn what_is_in_memory_fails_where_told(rt: HostRuntime) -> Result<(), Fail> {
-    let mut source = MemSource::new(b"abc".to_vec(rt.alloc())?, 2, vec![in rt.alloc(); 1u64]?);
+fn a_source_in_memory_fails_where_told(rt: HostRuntime) -> Result<(), Fail> {
+    let bytes = b"abc".to_vec(rt.alloc())?;
+    let mut source = MemSource::new(bytes, 2, vec![in rt.alloc(); 1u64]?);
     let mut piece = [0u8; 4];
     assert_eq!(rt; source.read(&mut piece), Ok(2));
     assert_eq!(rt; source.read(&mut piece), Err(Failed));
     assert_eq!(rt; source.read(&mut piece), Ok(1));
     assert_eq!(rt; piece, *b"cb\0\0");
+    Ok(())
+}
+
+#[test]
+fn an_outlet_in_memory_fails_where_told(rt: HostRuntime) -> Result<(), Fail> {
     let name = Name::read(rt.alloc(), b"lines")?;
     let mut outlet = MemOutlet::new(rt.alloc(), vec![in rt.alloc(); 1u64]?);
     assert_eq!(rt; outlet.append(&name, b"ab"), Ok(()));
@@ -58,23 +64,33 @@ fn the_adapters_pass_bytes_on(rt: HostRuntime) -> Result<(), Fail> {
     Ok(())
 }
 
+// A file of two lines, beside what a shelf doesn't tell of.
+fn fill_folder(rt: &HostRuntime) -> Result<(), Fail> {
+    let name = Name::read(rt.alloc(), b"b")?;
+    let mut outlet = FolderOutlet::new(rt, "feeds-of-a-test");
+    outlet.append(&name, b"x")?;
+    outlet.append(&name, b"y")?;
+    fs::create_dir(rt, "feeds-of-a-test/folder")?;
+    Ok(fs::write(rt, "feeds-of-a-test/no name", "a")?)
+}
+
+// Whether a name that leads through another folder is refused.
+fn stays_inside(rt: &HostRuntime) -> Result<bool, Fail> {
+    let outside = Name::read(rt.alloc(), b"folder/../b")?;
+    let loaded = FolderShelf::new(rt, "feeds-of-a-test").load(&outside);
+    let appended = FolderOutlet::new(rt, "feeds-of-a-test").append(&outside, b"z");
+    Ok(loaded == Err(ShelfFault::Failed) && appended == Err(Failed))
+}
+
 #[test]
 fn a_folder_keeps_lines_and_is_a_shelf_of_files_that_have_names(
     rt: HostRuntime,
 ) -> Result<(), Fail> {
-    let name = Name::read(rt.alloc(), b"b")?;
-    let mut outlet = FolderOutlet::new(&rt, "feeds-of-a-test");
-    assert_eq!(rt; outlet.append(&name, b"x"), Ok(()));
-    assert_eq!(rt; outlet.append(&name, b"y"), Ok(()));
-    fs::create_dir(&rt, "feeds-of-a-test/folder")?;
-    fs::write(&rt, "feeds-of-a-test/no name", "a")?;
+    fill_folder(&rt)?;
     let mut shelf = FolderShelf::new(&rt, "feeds-of-a-test");
     let names = shelf.names()?;
     assert_eq!(rt; names.len(), 1);
     assert_eq!(rt; shelf.load(&names[0])?.as_slice(), b"x\ny\n".as_slice());
-    let outside = Name::read(rt.alloc(), b"folder/../b")?;
-    assert!(rt; shelf.load(&outside) == Err(ShelfFault::Failed));
-    assert_eq!(rt; outlet.append(&outside, b"z"), Err(Failed));
-    fs::remove_dir_all(&rt, "feeds-of-a-test")?;
-    Ok(())
+    assert!(rt; stays_inside(&rt)?);
+    Ok(fs::remove_dir_all(&rt, "feeds-of-a-test")?)
 }

@@ -4,6 +4,7 @@ use cw_log::{AppendFault, BodyLog, CompactFault, Harm, OpenCause};
 use cw_pair::PairLog;
 use cw_types::LogName;
 use std::alloc::Global;
+use std::process::Abort;
 use std::test::Fail;
 
 // A config log with side number 1 and the bodies `xy` and `z`.
@@ -24,37 +25,63 @@ fn compact(alloc: Global, log: &mut PairLog<MemDisk>) -> Result<Result<(), Compa
     Ok(log.compact(&bodies))
 }
 
+// A log whose second disk fails from its fuse on.
+fn fused(alloc: Global, fuse: u64) -> Result<PairLog<MemDisk>, Fail> {
+    let a = disk_of(alloc, TWO, u64::MAX)?;
+    Ok(pair_of(alloc, a, disk_of(alloc, b"\x05", fuse)?)?)
+}
+
+// Whether a log is compacted. Where it isn't, it is shut.
+fn is_compacted(rt: &impl Abort, alloc: Global, log: &mut PairLog<MemDisk>) -> Result<bool, Fail> {
+    let done = compact(alloc, log)?.is_ok();
+    if !done {
+        assert_eq!(rt; log.append(b"c"), Err(AppendFault::Shut));
+    }
+    Ok(done)
+}
+
+// How many bodies are found on what a stop may leave of two disks.
+fn found_on(alloc: Global, (a, b): &(MemDisk, MemDisk), way: Way) -> Result<u64, Fail> {
+    let a = a.image(way)?;
+    Ok(pair_of(alloc, a, b.image(way)?)?.count())
+}
+
 #[test]
 fn a_stop_in_a_compaction_leaves_the_old_list_or_the_new(rt: HostRuntime) -> Result<(), Fail> {
-    let alloc = rt.alloc();
     for fuse in 3..13 {
-        let a = disk_of(alloc, TWO, u64::MAX)?;
-        let mut log = pair_of(alloc, a, disk_of(alloc, b"\x05", fuse)?)?;
-        let done = compact(alloc, &mut log)?.is_ok();
-        if !done {
-            assert_eq!(rt; log.append(b"c"), Err(AppendFault::Shut));
-        }
-        let (a, b) = log.give_back();
+        let mut log = fused(rt.alloc(), fuse)?;
+        let done = is_compacted(&rt, rt.alloc(), &mut log)?;
+        let disks = log.give_back();
         for way in [Way::AsRead, Way::Old, Way::Noise] {
-            let found = pair_of(alloc, a.image(way)?, b.image(way)?)?.count();
+            let found = found_on(rt.alloc(), &disks, way)?;
             assert!(rt; found == 1 || found == 2 && !done, "{found} at {fuse}");
         }
     }
     Ok(())
 }
 
+// The disks of a log that was compacted twice.
+fn compacted_twice(alloc: Global) -> Result<(MemDisk, MemDisk), Fail> {
+    let a = disk_of(alloc, TWO, u64::MAX)?;
+    let mut log = pair_of(alloc, a, MemDisk::empty(alloc))?;
+    compact(alloc, &mut log)??;
+    compact(alloc, &mut log)??;
+    Ok(log.give_back())
+}
+
+// A log whose first side has the greatest number.
+fn worn(alloc: Global, b: MemDisk) -> Result<PairLog<MemDisk>, Fail> {
+    let worn = b"\x01CWL\x01\x01\0\0\xFF\xFF\xFF\xFF\xFF\xFF\xFF\xFF\0";
+    Ok(pair_of(alloc, disk_of(alloc, worn, u64::MAX)?, b)?)
+}
+
 #[test]
 fn each_compaction_takes_the_other_side_until_it_is_worn(rt: HostRuntime) -> Result<(), Fail> {
-    let alloc = rt.alloc();
-    let mut log = pair_of(alloc, disk_of(alloc, TWO, u64::MAX)?, MemDisk::empty(alloc))?;
-    assert_eq!(rt; compact(alloc, &mut log)?, Ok(()));
-    assert_eq!(rt; compact(alloc, &mut log)?, Ok(()));
-    let (a, b) = log.give_back();
+    let (a, b) = compacted_twice(rt.alloc())?;
     let three = b"\x01CWL\x01\x01\0\0\0\0\0\0\0\0\0\x03\x01\0\0\0\x03new\0".as_slice();
     assert_eq!(rt; a.bytes(), three);
-    let worn = b"\x01CWL\x01\x01\0\0\xFF\xFF\xFF\xFF\xFF\xFF\xFF\xFF\0".as_slice();
-    let mut log = pair_of(alloc, disk_of(alloc, worn, u64::MAX)?, b)?;
-    assert_eq!(rt; compact(alloc, &mut log)?, Err(CompactFault::Worn));
+    let mut log = worn(rt.alloc(), b)?;
+    assert_eq!(rt; compact(rt.alloc(), &mut log)?, Err(CompactFault::Worn));
     assert_eq!(rt; log.append(b"z"), Ok(0));
     Ok(())
 }
