@@ -1,5 +1,6 @@
 //! The turn of a connection handler under the lock: a call is answered and journaled, and its receipt kept.
-ghost use Rattle.std.specs.Prelude.{◌≡◌, ◌<◌, ◌≤◌, ◌++◌, [], ◌∷◌, true, length, IsTrue, IfSome, IfOk, OnErr};
+ghost use Rattle.std.specs.Prelude.{◌≡◌, ◌<◌, ◌≤◌, ◌+◌, ◌++◌, [], ◌∷◌, true, length, IsTrue, IfSome, IfOk, OnOk};
+ghost use Rattle.std.specs.Prelude.{OnErr, vec_len, vec_capacity};
 ghost use Rattle.cw_board.specs.Records.{IsFirstPart};
 ghost use Rattle.cw_model.specs.Journal.{IsTrueEntry};
 ghost use Rattle.cw_world.specs.Receipts.{ReceiptState};
@@ -15,6 +16,7 @@ use cw_board::{Board, BoardWriter};
 use cw_disk::Disk;
 use cw_model::JournalEntry;
 use cw_route::Call;
+use cw_world::Receipt;
 use std::alloc::{AllocError, Global};
 use std::sync::{Mutex, Wait};
 
@@ -75,8 +77,7 @@ impl<J: Begun, D: Disk, W: Wait + Drop> Shared<J, D, W> {
             board: _,
             least,
         } = kept;
-        receipts.reserve(1)?;
-        room.reserve(world.cluster().journaled().len() + 1)?;
+        make_room(receipts, room, world.cluster().journaled().len() + 1)?;
         let receipt = cw_turns::answer(alloc, world, w, call)?;
         world.is_safe();
         *least = read_of(world, w).max(*least);
@@ -157,8 +158,7 @@ impl<J: Begun, D: Disk, W: Wait + Drop> Shared<J, D, W> {
             board: _,
             least,
         } = kept;
-        receipts.reserve(1)?;
-        room.reserve(world.cluster().journaled().len() + 1)?;
+        make_room(receipts, room, world.cluster().journaled().len() + 1)?;
         let prefix = entry.prefix;
         let noted = cw_turns::keep_seen(world, entry)?;
         *least = prefix;
@@ -166,6 +166,22 @@ impl<J: Begun, D: Disk, W: Wait + Drop> Shared<J, D, W> {
         book.add(share, 1);
         Ok(())
     }
+}
+
+// Room for one receipt more of a handler, and for so many among those of all.
+fn make_room(
+    receipts: &mut Vec<Receipt>,
+    room: &mut Vec<Receipt>,
+    count: usize,
+) -> Result<(), AllocError>
+    ensures receipts { receipts.new.items ≡ receipts.old.items }
+    ensures one { OnOk result (vec_len receipts.new < vec_capacity receipts.new) }
+    ensures same { vec_len room.new ≡ vec_len room.old }
+    ensures kept { vec_capacity room.old ≤ vec_capacity room.new }
+    ensures room { OnOk result (vec_len room.old + count ≤ vec_capacity room.new) }
+{
+    receipts.reserve(1)?;
+    room.reserve(count)
 }
 
 // Tells a reader, where there is one, of what is published.

@@ -1,4 +1,6 @@
 //! A task runner's thread.
+ghost use Rattle.std.specs.Prelude.{◌<◌};
+ghost use Rattle.cw_model.specs.Tasks.{batch_limit_of};
 
 use crate::common::Common;
 use crate::naming::Begun;
@@ -7,6 +9,7 @@ use crate::shared::Stop;
 use crate::stepping::Stepped;
 use cw_disk::Disk;
 use cw_io::Outlet;
+use cw_model::Instance;
 use cw_net::{Gate, Point};
 use cw_sinktask::Delivery;
 use cw_sourcetask::scan;
@@ -119,11 +122,23 @@ fn poll_source<J: Begun, D: Disk, U: Outlet, C, R: Wait, W: Wait + Drop>(
     i: u64,
 ) -> Stepped {
     let copy = common.shared.lock(rt).copy_polling(alloc, i);
-    let Some(instance) = copy else {
-        return Stepped::Refused;
-    };
-    match scan(&common.feeds, &instance) {
-        Ok(found) => common.shared.lock(rt).take_found(i, &found.1, found.0),
+    match copy {
+        Some(instance) => scan_polling(rt, common, i, &instance),
+        None => Stepped::Refused,
+    }
+}
+
+// What such a scan finds is taken under the lock, where the instance still waits for it.
+fn scan_polling<J: Begun, D: Disk, U: Outlet, C, R: Wait, W: Wait + Drop>(
+    rt: &R,
+    common: &Common<J, D, U, C, W>,
+    i: u64,
+    instance: &Instance,
+) -> Stepped
+    requires { 0 < batch_limit_of instance.now }
+{
+    match scan(&common.feeds, instance) {
+        Ok((turn, found)) => common.shared.lock(rt).take_found(i, &found, turn),
         Err(_) => {
             common.shared.lock(rt).stop_for(Stop::Memory);
             Stepped::Refused

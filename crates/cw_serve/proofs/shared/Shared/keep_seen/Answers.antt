@@ -14,33 +14,33 @@ invariant_of-self-in_err-noted g c =
     let keeps : KeepsJournal c.self.inside.world.state c.keep_seen.new.world.state =
     record { journal = c.in_err-noted.ensures.unkept; live = c.keep_seen.ensures.live } in (
       keeps_shared has.0 (c.keep_seen.ensures.goes_on g.J.Begun.start) keeps,
-      record { unused = c.in_ok-reserve-2.ensures.len ∙ has.1.unused; room = search rules },
+      record { unused = c.make_room.ensures.same ∙ has.1.unused; room = search rules },
       stays-boarded has.2 c.keep_seen.ensures.grows,
     )
 
 pub invariant_of-kept-2-clause-named : goal.invariant_of-kept-2-clause-named
 invariant_of-kept-2-clause-named g c =
-    all_behind g.J.Begun.start.name c.args.kept.now.receipts.items c.reserve.new.self.items c.push_reserved.new.self.items c.in_ok-noted.noted
-    c.args.kept.now.named (c.in_ok-noted.ensures.shows.1 ∙ c.self.invariant.0.goes_on.name) c.in_ok-reserve.ensures.items c.push_reserved.ensures.items
+    all_behind g.J.Begun.start.name c.args.kept.now.receipts.items c.make_room.new.receipts.items c.push_reserved.new.self.items c.in_ok-noted.noted
+    c.args.kept.now.named (c.in_ok-noted.ensures.shows.1 ∙ c.self.invariant.0.goes_on.name) c.make_room.ensures.receipts c.push_reserved.ensures.items
 
 pub invariant_of-self-2 : goal.invariant_of-self-2
 invariant_of-self-2 g c =
     let has = c.self.invariant in
     let shared = counts_one c.in_ok-noted.noted.entry has.0 (c.keep_seen.ensures.goes_on g.J.Begun.start) c.keep_seen.ensures.live c.in_ok-noted.ensures.kept in (
       subst (λ total. IsShared g.D.Disk g.J.Begun.start g.J.BoardNaming.workers total c.keep_seen.new.world) (sym c.add.ensures.total) shared,
-      record { unused = c.in_ok-reserve-2.ensures.len ∙ has.1.unused; room = search rules },
+      record { unused = c.make_room.ensures.same ∙ has.1.unused; room = search rules },
       stays-boarded has.2 c.keep_seen.ensures.grows,
     )
 
 pub invariant_of-kept-2-clause-covered : goal.invariant_of-kept-2-clause-covered
 invariant_of-kept-2-clause-covered g c =
-    all-covered c.args.kept.now.receipts.items c.reserve.new.self.items c.push_reserved.new.self.items c.in_ok-noted.noted
-    c.in_ok-reserve.ensures.items c.push_reserved.ensures.items c.args.kept.now.least c.args.entry.prefix c.args.kept.now.covered c.requires.least
+    all-covered c.args.kept.now.receipts.items c.make_room.new.receipts.items c.push_reserved.new.self.items c.in_ok-noted.noted
+    c.make_room.ensures.receipts c.push_reserved.ensures.items c.args.kept.now.least c.args.entry.prefix c.args.kept.now.covered c.requires.least
     (subst (λ (e : JournalEntry). Covers c.args.entry.prefix e) (sym c.in_ok-noted.ensures.asked)
     (covers-itself c.args.entry (c.requires.holds.board c.requires.board).deed))
 
 pub invariant_of-kept-2-clause-follow : goal.invariant_of-kept-2-clause-follow
 invariant_of-kept-2-clause-follow g c =
-    seen-follows c.args.kept.now.receipts.items c.reserve.new.self.items c.push_reserved.new.self.items c.in_ok-noted.noted
-    c.in_ok-reserve.ensures.items c.push_reserved.ensures.items c.args.kept.now.least c.args.kept.now.follow c.args.kept.now.covered
+    seen-follows c.args.kept.now.receipts.items c.make_room.new.receipts.items c.push_reserved.new.self.items c.in_ok-noted.noted
+    c.make_room.ensures.receipts c.push_reserved.ensures.items c.args.kept.now.least c.args.kept.now.follow c.args.kept.now.covered
     (subst (λ (e : JournalEntry). c.args.kept.now.least ≤ e.prefix) (sym c.in_ok-noted.ensures.asked) c.requires.least)
