@@ -6,7 +6,7 @@ use crate::refusal::{Made, Refusal};
 use cw_disk::{Disks, MemDisk, Way};
 use cw_feed::Feeds;
 use cw_io::MemShelf;
-use cw_open::reopen;
+use cw_open::{ReopenFault, reopen};
 use cw_types::Name;
 use cw_world::World;
 use percent_encoding::percent_decode;
@@ -75,7 +75,7 @@ impl Stage {
     // This is the world from now on.
     fn take_up(&mut self, world: Trial, line: &mut Line<'_>) -> Made {
         let told = sizes(&world, line);
-        self.world = Some(world);
+        drop(self.world.replace(world));
         told
     }
 }
@@ -88,12 +88,49 @@ fn left(world: Trial, way: Way) -> Disks<MemDisk> {
 
 // A cluster over disks, in which what a lost member ran is free at once.
 fn opened(alloc: Global, disks: Disks<MemDisk>) -> Result<Trial, Refusal> {
-    let feeds = no_feeds(alloc)?;
-    let group = group(alloc)?;
-    match reopen(alloc, disks, feeds, group, 0) {
-        Ok(world) => Ok(world),
-        Err(fault) => Err(Refusal::Unopened(fault.cause)),
+    match prepare(alloc) {
+        Ok(given) => opened_with(alloc, disks, given),
+        Err(refusal) => {
+            drop(disks);
+            Err(refusal)
+        }
     }
+}
+
+// What a cluster is opened with beside its disks.
+#[derive(Drop)]
+struct Given {
+    feeds: Feeds,
+    group: Name,
+}
+
+fn prepare(alloc: Global) -> Result<Given, Refusal> {
+    Ok(Given {
+        feeds: no_feeds(alloc)?,
+        group: group(alloc)?,
+    })
+}
+
+fn opened_with(alloc: Global, disks: Disks<MemDisk>, given: Given) -> Result<Trial, Refusal> {
+    match reopened(alloc, disks, given) {
+        Ok(world) => Ok(world),
+        Err(fault) => Err(unopened(fault)),
+    }
+}
+
+fn reopened(
+    alloc: Global,
+    disks: Disks<MemDisk>,
+    given: Given,
+) -> Result<Trial, ReopenFault<MemDisk>> {
+    let Given { feeds, group } = given;
+    reopen(alloc, disks, feeds, group, 0)
+}
+
+fn unopened(fault: ReopenFault<MemDisk>) -> Refusal {
+    let ReopenFault { disks, cause } = fault;
+    drop(disks);
+    Refusal::Unopened(cause)
 }
 
 fn no_feeds(alloc: Global) -> Result<Feeds, Refusal> {

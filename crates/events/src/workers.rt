@@ -60,12 +60,22 @@ pub(crate) fn clock(world: &mut Trial, line: &mut Line<'_>) -> Made {
 pub(crate) fn tick(world: &mut Trial, line: &mut Line<'_>) -> Made {
     let w = line.short()?;
     for _ in 0..line.short()? {
-        only_where(world.cluster().has_worker(w))?;
-        let now = world.cluster().moment();
-        let tick = cw_herder::tick(line.alloc, world, w, now)?;
-        write_tick(&mut line.answer, &tick)?;
+        tick_once(world, w, line)?;
     }
     Ok(())
+}
+
+fn tick_once(world: &mut Trial, w: u32, line: &mut Line<'_>) -> Made {
+    only_where(world.cluster().has_worker(w))?;
+    let now = world.cluster().moment();
+    let tick = cw_herder::tick(line.alloc, world, w, now)?;
+    let told = tell_tick(&tick, line);
+    drop(tick);
+    told
+}
+
+fn tell_tick(tick: &Tick, line: &mut Line<'_>) -> Made {
+    Ok(write_tick(&mut line.answer, tick)?)
 }
 
 // What a tick did, with its numbers.
