@@ -51,13 +51,22 @@ fn states_of(alloc: Global) -> Result<States, AllocError> {
     States::new(alloc).map_err(|_| AllocError)
 }
 
-fn main(rt: HostRuntime) -> io::Result<()> {
-    let mut states = states_of(rt.alloc())?;
+// Writes the answer of each line of the input.
+fn answer_lines<R: AllocGlobal + Input, W: Write>(
+    rt: &R,
+    states: &mut States,
+    output: &mut W,
+) -> io::Result<()> {
     let mut answer = Answer::new(rt.alloc());
-    let mut output = BufWriter::new(rt.alloc(), io::writer(&rt))?;
     for line in BufReader::new(rt.alloc(), rt.reader())?.lines(rt.alloc()) {
         let line = line?;
-        output.write_all(line_bytes(&mut states, line.as_str(), &mut answer)?)?;
+        output.write_all(line_bytes(states, line.as_str(), &mut answer)?)?;
     }
     output.flush()
+}
+
+fn main(rt: HostRuntime) -> io::Result<()> {
+    let mut states = states_of(rt.alloc())?;
+    let mut output = BufWriter::new(rt.alloc(), io::writer(&rt))?;
+    answer_lines(&rt, &mut states, &mut output)
 }

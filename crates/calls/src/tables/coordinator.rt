@@ -179,10 +179,23 @@ fn look_up(
         "epoch" => answer.long(coordinator.epoch_of(&fields.tid(alloc)?)),
         "base" => answer.long(coordinator.base_of(&fields.part(alloc)?)),
         "end" => answer.some_long(coordinator.end_of(&fields.part(alloc)?)),
+        "parts" => parts(alloc, coordinator, fields, answer),
+        word => look_up_commit(alloc, coordinator, word, fields, answer),
+    }
+}
+
+// A look-up of a transaction, or of spans that one may commit.
+fn look_up_commit(
+    alloc: Global,
+    coordinator: &Coordinator,
+    word: &str,
+    fields: &mut Fields<'_>,
+    answer: &mut Answer,
+) -> Result<(), Fault> {
+    match word {
         "verdict" => answer.word(verdict_word(coordinator.verdict(&fields.tag(alloc)?))),
         "is_committed" => answer.flag(coordinator.is_committed(&fields.tag(alloc)?)),
         "are_next" => answer.flag(coordinator.are_next(&fields.spans(alloc)?)),
-        "parts" => parts(alloc, coordinator, fields, answer),
         _ => Err(Fault::NoCall),
     }
 }

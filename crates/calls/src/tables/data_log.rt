@@ -5,7 +5,7 @@ use crate::fault::Fault;
 use crate::fields::Fields;
 use crate::states::States;
 use cw_data::{Batch, DataState};
-use cw_types::Listed;
+use cw_types::{Listed, Span};
 use std::alloc::Global;
 
 /// `data CALL ..`: a change, or a look-up. What is still unmarked is told by the transactions of
@@ -66,12 +66,15 @@ fn add(
 }
 
 fn read_batch(alloc: Global, fields: &mut Fields<'_>) -> Result<Batch, Fault> {
+    let tag = fields.tag(alloc)?;
+    let topic = fields.name(alloc)?;
+    let Span { part, from, to } = fields.span(alloc)?;
     let batch = Batch {
-        tag: fields.tag(alloc)?,
-        topic: fields.name(alloc)?,
-        part: fields.part(alloc)?,
-        from: fields.long()?,
-        to: fields.long()?,
+        tag,
+        topic,
+        part,
+        from,
+        to,
         values: Listed::new(values(alloc, fields)?),
     };
     Ok(batch.copy(alloc)?)

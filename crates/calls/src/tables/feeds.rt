@@ -50,20 +50,29 @@ pub fn next_cut(
     answer: &mut Answer,
 ) -> Result<(), Fault> {
     let part = fields.part(states.alloc)?;
+    let cut = read_cut(&states.feeds, &part, fields)?;
+    say_cut(cut, answer)
+}
+
+// The cut of a part that the fields behind it ask for.
+fn read_cut(feeds: &Feeds, part: &PartKey, fields: &mut Fields<'_>) -> Result<CutAnswer, Fault> {
     let count = fields.long()?;
     let from = fields.long()?;
     let most = fields.short()?;
-    match cut_of(&states.feeds, &part, count, from, most) {
-        Some(CutAnswer::Cut { to }) => {
+    cut_of(feeds, part, count, from, most).ok_or(Fault::NoCall)
+}
+
+fn say_cut(cut: CutAnswer, answer: &mut Answer) -> Result<(), Fault> {
+    match cut {
+        CutAnswer::Cut { to } => {
             answer.word("Cut")?;
             answer.long(to)
         }
-        Some(CutAnswer::AtEnd) => answer.word("AtEnd"),
-        Some(CutAnswer::LineTooLong(at)) => {
+        CutAnswer::AtEnd => answer.word("AtEnd"),
+        CutAnswer::LineTooLong(at) => {
             answer.word("LineTooLong")?;
             answer.long(at)
         }
-        None => Err(Fault::NoCall),
     }
 }
 
@@ -85,15 +94,24 @@ pub fn yield_of(
     answer: &mut Answer,
 ) -> Result<(), Fault> {
     let part = fields.part(states.alloc)?;
-    let from = fields.long()?;
-    let to = fields.long()?;
-    if !states.feeds.has_yield(&part, from, to) {
-        return Err(Fault::NoCall);
-    }
-    let records = states.feeds.yield_of(&part, from, to)?;
+    let records = read_yield(&states.feeds, &part, fields)?;
     answer.count(records.len())?;
     for record in &records {
         answer.text(record)?;
     }
     Ok(())
+}
+
+// The records of a part between the positions that the fields behind it name.
+fn read_yield(
+    feeds: &Feeds,
+    part: &PartKey,
+    fields: &mut Fields<'_>,
+) -> Result<Vec<Vec<u8>>, Fault> {
+    let from = fields.long()?;
+    let to = fields.long()?;
+    if !feeds.has_yield(part, from, to) {
+        return Err(Fault::NoCall);
+    }
+    Ok(feeds.yield_of(part, from, to)?)
 }

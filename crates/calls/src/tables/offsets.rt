@@ -23,16 +23,23 @@ pub fn call(
         "abort" => states.offsets.abort(&fields.tag(alloc)?)?,
         "set" => set(alloc, &mut states.offsets, fields)?,
         "unreserve" => states.offsets.unreserve(),
-        "committed" => {
-            let part = fields.part(alloc)?;
-            return answer.some_long(states.offsets.committed(&part));
-        }
+        "committed" => return committed(alloc, &states.offsets, fields, answer),
         "first_unmarked" => {
             return answer.some_tag(states.offsets.first_unmarked(&states.coordinator));
         }
         word => reserve(alloc, &mut states.offsets, word, fields)?,
     }
     answer.word("ok")
+}
+
+fn committed(
+    alloc: Global,
+    offsets: &OffsetState,
+    fields: &mut Fields<'_>,
+    answer: &mut Answer,
+) -> Result<(), Fault> {
+    let part = fields.part(alloc)?;
+    answer.some_long(offsets.committed(&part))
 }
 
 fn reserve(
@@ -43,20 +50,32 @@ fn reserve(
 ) -> Result<(), Fault> {
     match word {
         "reserve_stand" => offsets.reserve_stand(&fields.tag(alloc)?)?,
-        "reserve_put" => {
-            let tag = fields.tag(alloc)?;
-            let part = fields.part(alloc)?;
-            offsets.reserve_put(&tag, &part, fields.long()?)?;
-        }
+        "reserve_put" => reserve_put(alloc, offsets, fields)?,
         "reserve_commit" => offsets.reserve_commit(&fields.tag(alloc)?)?,
         "reserve_abort" => offsets.reserve_abort(&fields.tag(alloc)?)?,
-        "reserve_set" => {
-            let part = fields.part(alloc)?;
-            offsets.reserve_set(&part, fields.some_long()?)?;
-        }
+        "reserve_set" => reserve_set(alloc, offsets, fields)?,
         _ => return Err(Fault::NoCall),
     }
     Ok(())
+}
+
+fn reserve_put(
+    alloc: Global,
+    offsets: &mut OffsetState,
+    fields: &mut Fields<'_>,
+) -> Result<(), Fault> {
+    let tag = fields.tag(alloc)?;
+    let part = fields.part(alloc)?;
+    Ok(offsets.reserve_put(&tag, &part, fields.long()?)?)
+}
+
+fn reserve_set(
+    alloc: Global,
+    offsets: &mut OffsetState,
+    fields: &mut Fields<'_>,
+) -> Result<(), Fault> {
+    let part = fields.part(alloc)?;
+    Ok(offsets.reserve_set(&part, fields.some_long()?)?)
 }
 
 fn put(alloc: Global, offsets: &mut OffsetState, fields: &mut Fields<'_>) -> Result<(), Fault> {
