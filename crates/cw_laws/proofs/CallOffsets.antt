@@ -37,7 +37,7 @@ use Rattle.cw_rest.specs.Offsets.{Alteration, is_part_of, partition_of, partitio
 use Rattle.cw_rest.specs.Operations.{removals}
 use Rattle.cw_model.specs.State.{Setting, Cluster}
 use Rattle.cw_model.specs.FactsLogs.{LogFacts}
-use Rattle.cw_laws.proofs.ItemOrder.{sorted-fold, sorted-none}
+use Rattle.cw_types.proofs.Rising.{rising-fold, rising-none}
 use Rattle.cw_laws.proofs.Lists.{each-append}
 
 -- ---- parts that are written
@@ -151,7 +151,7 @@ removals-may setting s is_source name f =
     record {
       own = removed-own name (parts_with_offsets is_source name s.entries) each;
       distinct = subst (IsDistinct same_part) (sym (removed-parts (parts_with_offsets is_source name s.entries)))
-          (rising-distinct (parts_with_offsets is_source name s.entries) (sorted-fold partition_cmp partition_total chosen [] (sorted-none partition_cmp partition_total)));
+          (rising-distinct (parts_with_offsets is_source name s.entries) (rising-fold partition_cmp partition_total chosen [] (rising-none partition_cmp partition_total)));
       fit = removed-fit name (parts_with_offsets is_source name s.entries) each;
     }
 

@@ -19,7 +19,7 @@ use Rattle.cw_config.specs.View.{properties_in}
 use Rattle.cw_config.specs.Connectors.{AreConnectors}
 use Rattle.cw_config.proofs.Rising.{last_where-cons}
 use Rattle.cw_rest.specs.Seen.{Seen, is_connector, connector_key, connectors_in}
-use Rattle.cw_reply.proofs.Sorted.{has, sorted}
+use Rattle.cw_types.proofs.Sorted.{has, sorted}
 
 pub one_name : (x y : List ℕ) → name_cmp x y ≡ Equal → x ≡ y
 one_name x y is = (bytes_eq-Decides x y).0 (sym (is_eq-slice_cmp x y) ∙ ap is_eq is)

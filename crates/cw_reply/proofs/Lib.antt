@@ -1,5 +1,4 @@
 mod Connectors
 mod Listing
-mod Sorted
 mod Tasks
 mod Whole

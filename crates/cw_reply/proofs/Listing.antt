@@ -34,7 +34,7 @@ use Rattle.cw_rest.specs.Offsets.{is_of_type, is_part_of, partition_cmp, parts_i
 use Rattle.cw_reply.specs.declared.placed.Placed.{Placed}
 use Rattle.cw_reply.specs.Placed.{partition_text, placed_of, placed_cmp, with_part, in_order}
 use Rattle.cw_reply.proofs.Connectors.{named, one_name}
-use Rattle.cw_reply.proofs.Sorted.{same_fold}
+use Rattle.cw_types.proofs.Sorted.{same_fold}
 
 -- ---- a map that keeps the order goes through inserts
 

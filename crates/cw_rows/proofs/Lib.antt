@@ -8,7 +8,6 @@ pub mod Bumps
 pub mod Restarts
 pub mod DataDue
 pub mod Joins
-pub mod Sorted
 pub mod Planned
 pub mod Plans
 pub mod ConfigDue

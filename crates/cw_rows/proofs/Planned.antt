@@ -1,12 +1,11 @@
 -- The items of the connectors that a view lists are the configured ones.
-use Rattle.std.proofs.Common.{◌≡◌, ℕ, Bool, true, false, ◌||◌, ◌&&◌, cond, List, [], ◌∷◌, Option, None, Some, refl, ap, sym, subst, ◌∙◌, true≢false, Ordering}
-use mathlib.Core.Path.{fun_ext}
+use Rattle.std.proofs.Common.{◌≡◌, ℕ, Bool, true, false, ◌||◌, ◌&&◌, cond, List, [], ◌∷◌, Option, None, Some, refl, ap, sym, subst, ◌∙◌, true≢false}
 use Rattle.std.specs.Option.{is_some, option_and_then, option_or}
 use Rattle.std.specs.List.{filter, filter_map, flat_map, cons_option, list_any}
-use Rattle.std.specs.Cmp.{both_ways, IsTotalOrder, then_total, on_total, nat_cmp_total}
-use Rattle.std.specs.Cmp.Lexicographic.{slice_cmp, nat_list_cmp_total}
-use Rattle.std.specs.Ordering.{eq_by_cmp, is_eq, nat_cmp, ordering_then, then_cmp, on}
-use Rattle.std.specs.declared.cmp.Ordering.TheVariants.{Less, Equal, Greater}
+use Rattle.std.specs.Cmp.{both_ways}
+use Rattle.std.specs.Cmp.Lexicographic.{nat_list_cmp_total}
+use Rattle.std.specs.Ordering.{eq_by_cmp, is_eq}
+use Rattle.std.specs.declared.cmp.Ordering.TheVariants.{Equal}
 use Rattle.std.proofs.lemmas.Cmp.{eq_by_cmp_equiv}
 use Rattle.std.proofs.lemmas.List.Folds.{list_any-append}
 use Rattle.std.proofs.lemmas.Map.Text.{is_eq-slice_cmp}
@@ -15,6 +14,8 @@ use Rattle.std.proofs.lemmas.Slice.Eq.{bytes_eq-Decides}
 use Rattle.cw_types.specs.declared.ids.Item.{Item}
 use Rattle.cw_types.specs.declared.ids.Item.TheVariants.{Connector, Task}
 use Rattle.cw_types.specs.Order.{name_cmp, item_cmp}
+use Rattle.cw_types.proofs.ItemOrder.{item_total}
+use Rattle.cw_types.proofs.Sorted.{same_fold}
 use Rattle.cw_assign.specs.Items.{has, same_item, in_order}
 use Rattle.cw_assign.proofs.ItemLemmas.{same_item-Decides}
 use Rattle.cw_keys.specs.declared.config_key.ConfigKey.{ConfigKey}
@@ -26,39 +27,8 @@ use Rattle.cw_config.specs.Connectors.{AreConnectors}
 use Rattle.cw_config.proofs.Rising.{last_where-cons}
 use Rattle.cw_rest.specs.Seen.{connector_key}
 use Rattle.cw_model.specs.Lookups.{items_of, configured_items}
-use Rattle.cw_rows.proofs.Sorted.{same_fold}
 
--- ---- the order of items is total
-
-abbrev rank : Item → ℕ
-rank (Connector name) = 0
-rank (Task id) = 1
-
-abbrev name_in : Item → List ℕ
-name_in (Connector name) = name
-name_in (Task id) = id.connector
-
-abbrev index_in : Item → ℕ
-index_in (Connector name) = 0
-index_in (Task id) = id.index
-
-abbrev by_parts : Item → Item → Ordering
-by_parts = then_cmp (on rank nat_cmp) (then_cmp (on name_in (slice_cmp nat_cmp)) (on index_in nat_cmp))
-
-then-equal : (o : Ordering) → ordering_then o Equal ≡ o
-then-equal Less = refl
-then-equal Equal = refl
-then-equal Greater = refl
-
-same_order : (a b : Item) → by_parts a b ≡ item_cmp a b
-same_order (Connector a) (Connector b) = then-equal (slice_cmp nat_cmp a b)
-same_order (Connector a) (Task b) = refl
-same_order (Task a) (Connector b) = refl
-same_order (Task a) (Task b) = refl
-
-item_total : IsTotalOrder item_cmp
-item_total = subst (λ (cmp : Item → Item → Ordering). IsTotalOrder cmp) (fun_ext (λ a. fun_ext (λ b. same_order a b)))
-    (then_total (on_total rank nat_cmp_total) (then_total (on_total name_in nat_list_cmp_total) (on_total index_in nat_cmp_total)))
+-- ---- items that compare as equal are one
 
 one-item : (a b : Item) → item_cmp a b ≡ Equal → a ≡ b
 one-item a b is = (same_item-Decides a b).0 (ap is_eq is)

@@ -42,7 +42,7 @@ use Rattle.cw_rest.specs.Bodies.{has_members, where_it}
 use Rattle.cw_json.specs.Reading.{reading}
 use Rattle.cw_rest.specs.Offsets.{Alteration, alteration_of, elements_of, part_in, feed_in, sequence_in, topic_in, offset_in, set_by, sets_by, each_of, with_each, has_repeat, is_of_type, is_part_of, has_offset, partition_of, partition_cmp, parts_in, is_list_of_offsets, alterations_by, alterations_in}
 use Rattle.cw_laws.proofs.Disks.{and-first, and-second}
-use Rattle.cw_laws.proofs.ItemOrder.{sorted-fold, sorted-none}
+use Rattle.cw_types.proofs.Rising.{rising-fold, rising-none}
 use Rattle.cw_laws.proofs.Lists.{each-weaker, each-map, each-append}
 use Rattle.cw_keys.specs.declared.target.Target.{Target}
 use Rattle.cw_keys.specs.declared.target.Target.TheVariants.{Started, Paused, Stopped}
@@ -329,7 +329,7 @@ module _ (leader : ℕ) (s : Cluster) (leads : IsSome (row_of leader s).lead) (s
       let parts : List PartKey = parts_seen name seen in
       let each : AllByRecursion (IsOwn name) parts = fold-each (IsOwn name) (filter test (flat_map parts_in seen.entries)) [] owned tt in
       let rising : IsStrictlySortedBy partition_cmp parts =
-      sorted-fold partition_cmp partition_total (filter test (flat_map parts_in seen.entries)) [] (sorted-none partition_cmp partition_total) in
+      rising-fold partition_cmp partition_total (filter test (flat_map parts_in seen.entries)) [] (rising-none partition_cmp partition_total) in
       stopped-may (removals parts) (removed-each name parts each) (subst (IsDistinct same_part) (sym (removed-parts parts)) (rising-distinct parts rising)) once.0
 
 -- the offsets of a call that would succeed

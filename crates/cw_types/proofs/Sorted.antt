@@ -1,13 +1,14 @@
 -- Lists in a strict order: one is told by what it contains, so that a list to which one element after the other was
 -- added in its place is the sorted list of all of them.
 use Rattle.std.proofs.Common.{◌≡◌, Bool, true, false, ◌||◌, List, [], ◌∷◌, refl, ap, sym, subst, ◌∙◌, true≢false}
-use Rattle.std.specs.List.{list_any, fold, AllByRecursion}
+use Rattle.std.specs.List.{list_any, fold}
 use Rattle.std.specs.List.Sorted.{IsStrictlySortedBy}
 use Rattle.std.specs.Ordering.{is_eq, eq_by_cmp, match_ordering, ordering_reverse}
 use Rattle.std.specs.declared.cmp.Ordering.{Ordering}
 use Rattle.std.specs.declared.cmp.Ordering.TheVariants.{Less, Equal, Greater}
 use Rattle.std.specs.Cmp.{IsTotalOrder}
 use Rattle.std.specs.BTreeSet.{insert_key}
+use Rattle.cw_types.proofs.Rising.{Above as AboveIn, above_less, greater, rising-none, rising-fold}
 
 or_false : (b : Bool) → (b || false) ≡ b
 or_false true = refl
@@ -34,7 +35,7 @@ module _ {K : Type 0} (R : K → K → Ordering) (o : IsTotalOrder R) (exact : (
   has k xs = list_any (eq_by_cmp R k) xs
 
   abbrev Above : K → List K → Type 0
-  Above x = AllByRecursion (λ y. R x y ≡ Less)
+  Above = AboveIn R o
 
   own : (x : K) (r : Ordering) → R x x ≡ r → r ≡ ordering_reverse r → R x x ≡ Equal
   own x Less is turned = absurd (cc)
@@ -44,16 +45,9 @@ module _ {K : Type 0} (R : K → K → Ordering) (o : IsTotalOrder R) (exact : (
   itself : (x : K) → R x x ≡ Equal
   itself x = own x (R x x) refl (o.antisymm x x)
 
-  greater : (x y : K) → R x y ≡ Greater → R y x ≡ Less
-  greater x y is = o.antisymm y x ∙ ap ordering_reverse is
-
   not_above : (x : K) (ys : List K) → Above x ys → has x ys ≡ false
   not_above x [] above = refl
   not_above x (y ∷ ys) above = ap (λ (r : Ordering). is_eq r || has x ys) above.0 ∙ not_above x ys above.1
-
-  above_less : (x y : K) (ys : List K) → R x y ≡ Less → Above y ys → Above x ys
-  above_less x y [] less above = above
-  above_less x y (z ∷ ys) less above = (o.trans x y z less above.0, above_less x y ys less above.1)
 
   tail_has : (x : K) (xs ys : List K) (k : K) → Above x xs → Above x ys
       → (is_eq (R k x) || has k xs) ≡ (is_eq (R k x) || has k ys) → (r : Ordering) → R k x ≡ r → has k xs ≡ has k ys
@@ -66,7 +60,7 @@ module _ {K : Type 0} (R : K → K → Ordering) (o : IsTotalOrder R) (exact : (
       → (is_eq (R x x) || has x xs) ≡ (is_eq (R x y) || has x ys) → true ≡ false
   lesser_head x y xs ys above less same =
       sym (ap (λ (r : Ordering). is_eq r || has x xs) (itself x)) ∙ same
-      ∙ ap (λ (r : Ordering). is_eq r || has x ys) less ∙ not_above x ys (above_less x y ys less above)
+      ∙ ap (λ (r : Ordering). is_eq r || has x ys) less ∙ not_above x ys (above_less R o x y ys less above)
 
   heads : (x y : K) (xs ys : List K) → Above x xs → Above y ys
       → ((k : K) → (is_eq (R k x) || has k xs) ≡ (is_eq (R k y) || has k ys))
@@ -78,7 +72,7 @@ module _ {K : Type 0} (R : K → K → Ordering) (o : IsTotalOrder R) (exact : (
       ∙ ap (λ (zs : List K). y ∷ zs) (tails (λ k. tail_has x xs ys k above (subst (λ (q : K). Above q ys) (sym one) below)
       (subst (λ (q : K). (is_eq (R k x) || has k xs) ≡ (is_eq (R k q) || has k ys)) (sym one) (same k)) (R k x) refl))
   heads x y xs ys above below same tails Greater is =
-      absurd (true≢false (lesser_head y x ys xs above (greater x y is) (sym (same y))))
+      absurd (true≢false (lesser_head y x ys xs above (greater R o x y is) (sym (same y))))
 
   -- two strictly sorted lists that contain the same are one
   pub unique : (xs ys : List K) → IsStrictlySortedBy R xs → IsStrictlySortedBy R ys → ((k : K) → has k xs ≡ has k ys) → xs ≡ ys
@@ -101,44 +95,16 @@ module _ {K : Type 0} (R : K → K → Ordering) (o : IsTotalOrder R) (exact : (
   has-insert q k [] = refl
   has-insert q k (x ∷ xs) = has-insert_at q k x xs (has-insert q k xs) (R k x) refl
 
-  above-insert_at : (y k x : K) (xs : List K) → R y k ≡ Less → Above y (x ∷ xs) → Above y (insert_key R xs k) → (r : Ordering)
-      → Above y (match_ordering r (k ∷ x ∷ xs) (x ∷ xs) (x ∷ insert_key R xs k))
-  above-insert_at y k x xs less above more Less = (less, above)
-  above-insert_at y k x xs less above more Equal = above
-  above-insert_at y k x xs less above more Greater = (above.0, more)
-
-  above-insert : (y k : K) (xs : List K) → R y k ≡ Less → Above y xs → Above y (insert_key R xs k)
-  above-insert y k [] less above = (less, above)
-  above-insert y k (x ∷ xs) less above = above-insert_at y k x xs less above (above-insert y k xs less above.1) (R k x)
-
-  rising-insert_at : (k x : K) (xs : List K) → Above x xs → IsStrictlySortedBy R xs → IsStrictlySortedBy R (insert_key R xs k) → (r : Ordering) → R k x ≡ r
-      → IsStrictlySortedBy R (match_ordering r (k ∷ x ∷ xs) (x ∷ xs) (x ∷ insert_key R xs k))
-  unfolding IsStrictlySortedBy
-  rising-insert_at k x xs above rising more Less is = ((is, above_less k x xs is above), (above, rising))
-  rising-insert_at k x xs above rising more Equal is = (above, rising)
-  rising-insert_at k x xs above rising more Greater is = (above-insert x k xs (greater k x is) above, more)
-
-  rising-insert : (k : K) (xs : List K) → IsStrictlySortedBy R xs → IsStrictlySortedBy R (insert_key R xs k)
-  unfolding IsStrictlySortedBy
-  rising-insert k [] rising = (tt, tt)
-  rising-insert k (x ∷ xs) rising = rising-insert_at k x xs rising.0 rising.1 (rising-insert k xs rising.1) (R k x) refl
-
   has-fold : (q : K) (xs acc : List K) → has q (fold (insert_key R) acc xs) ≡ (has q acc || has q xs)
   has-fold q [] acc = sym (or_false (has q acc))
   has-fold q (x ∷ xs) acc =
       has-fold q xs (insert_key R acc x) ∙ ap (λ (b : Bool). b || has q xs) (has-insert q x acc)
       ∙ or_move (eq_by_cmp R q x) (has q acc) (has q xs)
 
-  rising-fold : (xs acc : List K) → IsStrictlySortedBy R acc → IsStrictlySortedBy R (fold (insert_key R) acc xs)
-  rising-fold [] acc rising = rising
-  rising-fold (x ∷ xs) acc rising = rising-fold xs (insert_key R acc x) (rising-insert x acc rising)
-
   -- a strictly sorted list of what some elements are is the list to which these were added one by one
   pub sorted : (ys xs : List K) → IsStrictlySortedBy R ys → ((k : K) → has k ys ≡ has k xs) → ys ≡ fold (insert_key R) [] xs
-  unfolding IsStrictlySortedBy
-  sorted ys xs rising same = unique ys (fold (insert_key R) [] xs) rising (rising-fold xs [] tt) (λ k. same k ∙ sym (has-fold k xs []))
+  sorted ys xs rising same = unique ys (fold (insert_key R) [] xs) rising (rising-fold R o xs [] (rising-none R o)) (λ k. same k ∙ sym (has-fold k xs []))
 
   -- lists that contain the same, added one by one, are one
   pub same_fold : (xs ys : List K) → ((k : K) → has k xs ≡ has k ys) → fold (insert_key R) [] xs ≡ fold (insert_key R) [] ys
-  unfolding IsStrictlySortedBy
-  same_fold xs ys same = sorted (fold (insert_key R) [] xs) ys (rising-fold xs [] tt) (λ k. has-fold k xs [] ∙ same k)
+  same_fold xs ys same = sorted (fold (insert_key R) [] xs) ys (rising-fold R o xs [] (rising-none R o)) (λ k. has-fold k xs [] ∙ same k)
