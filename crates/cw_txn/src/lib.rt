@@ -12,11 +12,15 @@ mod coordinator;
 mod entry;
 mod epochs;
 mod history;
+mod owning;
 mod parts;
 mod replay;
 mod tables;
 
 pub use body::{BodyFault, read_entries, write_entries};
-pub use coordinator::{Coordinator, TxnFault, lists_stay_allowed, raw_transactions_are_new};
+pub use coordinator::{
+    Coordinator, TxnFault, have_distinct_parts, lists_stay_allowed, raw_transactions_are_new,
+};
 pub use entry::{Entry, SetOffset};
+pub use owning::{are_of_distinct_parts, commits_own, sets_own};
 pub use replay::{ListFault, Replay};

@@ -1,6 +1,6 @@
 use Rattle.std.proofs.Common.{◌∙◌, sym}
 use Rattle.cw_txn.proofs.Ended.{is_of-Decides}
-use Rattle.cw_txn.proofs.allowed.is_owned.Goals as goal
+use Rattle.cw_txn.proofs.owning.is_owned.Goals as goal
 
 pub returns : goal.returns
 returns c = (

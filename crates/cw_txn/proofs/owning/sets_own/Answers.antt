@@ -3,7 +3,7 @@ use Rattle.cw_types.specs.declared.ids.Tid.{Tid}
 use Rattle.cw_txn.specs.Allowed.{IsSinkOf, SetsOwn}
 use Rattle.cw_txn.proofs.Noted.{part_set}
 use Rattle.cw_txn.proofs.Mapped.{iff-map}
-use Rattle.cw_txn.proofs.allowed.sets_own.Goals as goal
+use Rattle.cw_txn.proofs.owning.sets_own.Goals as goal
 
 pub returns-in-Task : goal.returns-in-Task
 returns-in-Task c =

@@ -3,7 +3,7 @@ use Rattle.cw_types.specs.declared.ids.Tid.{Tid}
 use Rattle.cw_txn.specs.Allowed.{IsRaw, IsSourceOf, CommitsOwn}
 use Rattle.cw_txn.proofs.Chained.{part_of}
 use Rattle.cw_txn.proofs.Mapped.{iff-map}
-use Rattle.cw_open.proofs.allowed.commits_own.Goals as goal
+use Rattle.cw_txn.proofs.owning.commits_own.Goals as goal
 
 pub returns-in-Task : goal.returns-in-Task
 returns-in-Task c =

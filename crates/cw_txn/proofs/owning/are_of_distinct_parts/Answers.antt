@@ -6,7 +6,7 @@ use Rattle.std.specs.Map.{lookup}
 use Rattle.std.specs.BTreeMap.{is_at}
 use Rattle.cw_txn.proofs.DistinctParts.{none_distinct, stay_distinct, not_distinct}
 use Rattle.cw_txn.proofs.Noted.{part_set, noted_more, is_new, is_old}
-use Rattle.cw_open.proofs.allowed.are_of_distinct_parts.Goals as goal
+use Rattle.cw_txn.proofs.owning.are_of_distinct_parts.Goals as goal
 
 -- a test of the item's part is one of the element's
 at_item : (list : List SetOffset) (at : ℕ) (set : SetOffset) → set ≡ get_or list at set → (b : Bool) → list_any (λ (x : SetOffset). same_part set.part x.part) (take at list) ≡ b

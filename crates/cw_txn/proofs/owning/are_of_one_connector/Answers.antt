@@ -5,7 +5,7 @@ use Rattle.cw_txn.specs.declared.entry.SetOffset.{SetOffset}
 use Rattle.cw_types.specs.Same.{connector_of}
 use Rattle.cw_txn.proofs.Noted.{part_set}
 use Rattle.cw_txn.proofs.Mapped.{All-of_map}
-use Rattle.cw_open.proofs.allowed.are_of_one_connector.Goals as goal
+use Rattle.cw_txn.proofs.owning.are_of_one_connector.Goals as goal
 
 some_is : (x y : List ℕ) → Some x ≡ Some y → x ≡ y
 some_is x y e = cc

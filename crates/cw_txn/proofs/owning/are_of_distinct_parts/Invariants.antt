@@ -3,7 +3,7 @@ use Rattle.std.specs.List.{IsDistinct}
 use Rattle.cw_types.specs.Same.{same_part}
 use Rattle.cw_txn.specs.Walk.{AreNoted}
 use Rattle.cw_txn.proofs.Noted.{part_set}
-use Rattle.cw_txn.proofs.allowed.are_of_distinct_parts.Given as goal
+use Rattle.cw_txn.proofs.owning.are_of_distinct_parts.Given as goal
 
 abbrev pub invariant-loop-set : goal.invariant-loop-set
 invariant-loop-set l = record {
