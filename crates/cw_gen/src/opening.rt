@@ -11,7 +11,7 @@ use cw_disk::{Disk, Disks};
 use cw_feed::Feeds;
 use cw_io::ShelfFault;
 use cw_model::empty_files_stand_for_the_empty_cluster;
-use cw_open::{ReopenCause, reopen};
+use cw_open::{ReopenCause, ReopenFault, reopen};
 use cw_types::Name;
 use cw_world::World;
 use std::alloc::{AllocError, Global};
@@ -34,10 +34,14 @@ pub(crate) fn open<D: Disk + Drop>(
     let feeds = no_feeds(alloc)?;
     match reopen(alloc, disks, feeds, group, delay) {
         Ok(world) => Ok(world),
-        Err(fault) => match fault.cause {
-            ReopenCause::Memory => Err(AllocError),
-            ReopenCause::Damaged { .. } | ReopenCause::StoreFault { .. } => unreachable!(),
-        },
+        Err(fault) => {
+            let ReopenFault { disks, cause } = fault;
+            drop(disks);
+            match cause {
+                ReopenCause::Memory => Err(AllocError),
+                ReopenCause::Damaged { .. } | ReopenCause::StoreFault { .. } => unreachable!(),
+            }
+        }
     }
 }
 
