@@ -30,14 +30,24 @@ fn disks(alloc: Global) -> Result<Disks<MemDisk>, Fail> {
     })
 }
 
+// The feeds of a shelf that has none.
+fn no_feeds(alloc: Global) -> Result<Feeds, Fail> {
+    let mut shelf = MemShelf::new(alloc, Vec::new(alloc));
+    Ok(Feeds::load(alloc, &mut shelf)?)
+}
+
+// How an audit ends over an output.
+fn audit_over(alloc: Global, output: &mut MemSink) -> Result<AuditEnd, Fail> {
+    let feeds = no_feeds(alloc)?;
+    let group = Name::read(alloc, b"g")?;
+    Ok(audit(alloc, disks(alloc)?, &feeds, &group, output).end)
+}
+
 // How an audit ends over an output that takes 7 bytes a call and fails at some, and what it wrote.
 fn audited(alloc: Global, failing: Vec<u64>) -> Result<(AuditEnd, MemSink), Fail> {
-    let mut shelf = MemShelf::new(alloc, Vec::new(alloc));
-    let feeds = Feeds::load(alloc, &mut shelf)?;
-    let group = Name::read(alloc, b"g")?;
     let mut output = MemSink::new(alloc, 7, failing);
-    let audited = audit(alloc, disks(alloc)?, &feeds, &group, &mut output);
-    Ok((audited.end, output))
+    let end = audit_over(alloc, &mut output)?;
+    Ok((end, output))
 }
 
 #[test]

@@ -5,6 +5,7 @@ use cw_route::{Reply, route};
 use cw_status::StatusState;
 use cw_txn::{Coordinator, SetOffset};
 use cw_types::{Epoch, Name, PartKey, Tid};
+use std::alloc::Global;
 use std::test::Fail;
 
 // A stopped source of the name `a`.
@@ -31,6 +32,12 @@ fn offsets(rt: &HostRuntime) -> Result<Coordinator, Fail> {
     Ok(txn)
 }
 
+// What a request is answered by who sees this.
+fn answer(alloc: Global, seen: &View<'_>, method: &[u8], target: &[u8]) -> Result<Reply, Fail> {
+    let call = route(alloc, method, target, b"")?;
+    Ok(reply(alloc, &call, seen)?)
+}
+
 // What a request is answered.
 fn ask(rt: &HostRuntime, ready: bool, method: &[u8], target: &[u8]) -> Result<Reply, Fail> {
     let (config, txn, feeds) = (configs(rt)?, offsets(rt)?, []);
@@ -42,7 +49,7 @@ fn ask(rt: &HostRuntime, ready: bool, method: &[u8], target: &[u8]) -> Result<Re
         txn: &txn,
         feeds: &feeds,
     };
-    Ok(reply(rt.alloc(), &route(rt.alloc(), method, target, b"")?, &seen)?)
+    answer(rt.alloc(), &seen, method, target)
 }
 
 #[test]

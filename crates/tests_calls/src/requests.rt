@@ -3,7 +3,20 @@ use cw_http::{HttpFault, read_request, refusal, write_reply};
 use cw_io::MemLink;
 use cw_route::Reply;
 use cw_types::Listed;
+use std::alloc::Global;
 use std::test::Fail;
+
+// Whether the next request has this target and this body, and whether it closes its connection as told.
+fn comes(
+    alloc: Global,
+    link: &mut MemLink,
+    kept: &mut Vec<u8>,
+    (target, body, close): (&[u8], &[u8], bool),
+) -> Result<bool, HttpFault> {
+    let request = read_request(alloc, link, kept)?;
+    let is = request.target.as_slice() == target && request.body.as_slice() == body;
+    Ok(is && request.close == close)
+}
 
 #[test]
 fn requests_stand_one_behind_the_other(rt: HostRuntime) -> Result<(), Fail> {
@@ -11,12 +24,8 @@ fn requests_stand_one_behind_the_other(rt: HostRuntime) -> Result<(), Fail> {
     let text = b"POST /a HTTP/1.1\r\nContent-Length: 2\r\n\r\nxyGET /b HTTP/1.0\r\n\r\nGET";
     let mut link = MemLink::new(alloc, text.to_vec(alloc)?, 0, 100, Vec::new(alloc))?;
     let mut kept = Vec::new(alloc);
-    let first = read_request(alloc, &mut link, &mut kept)?;
-    assert_eq!(rt; first.body.as_slice(), b"xy".as_slice());
-    assert!(rt; !first.close);
-    let second = read_request(alloc, &mut link, &mut kept)?;
-    assert_eq!(rt; second.target.as_slice(), b"/b".as_slice());
-    assert!(rt; second.close);
+    assert!(rt; comes(alloc, &mut link, &mut kept, (b"/a", b"xy", false))?);
+    assert!(rt; comes(alloc, &mut link, &mut kept, (b"/b", b"", true))?);
     assert!(rt; read_request(alloc, &mut link, &mut kept).is_err());
     Ok(())
 }

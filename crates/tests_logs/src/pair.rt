@@ -60,30 +60,47 @@ fn a_stop_in_a_compaction_leaves_the_old_list_or_the_new(rt: HostRuntime) -> Res
     Ok(())
 }
 
+// Compacts twice.
+fn compact_twice(alloc: Global, log: &mut PairLog<MemDisk>) -> Result<(), Fail> {
+    compact(alloc, log)??;
+    Ok(compact(alloc, log)??)
+}
+
 // The disks of a log that was compacted twice.
 fn compacted_twice(alloc: Global) -> Result<(MemDisk, MemDisk), Fail> {
     let a = disk_of(alloc, TWO, u64::MAX)?;
     let mut log = pair_of(alloc, a, MemDisk::empty(alloc))?;
-    compact(alloc, &mut log)??;
-    compact(alloc, &mut log)??;
-    Ok(log.give_back())
+    let done = compact_twice(alloc, &mut log);
+    let disks = log.give_back();
+    match done {
+        Ok(()) => Ok(disks),
+        Err(fail) => {
+            drop(disks);
+            Err(fail)
+        }
+    }
 }
 
-// A log whose first side has the greatest number.
-fn worn(alloc: Global, b: MemDisk) -> Result<PairLog<MemDisk>, Fail> {
+// A log whose first side has the greatest number isn't compacted, and goes on.
+fn stays_worn(rt: &impl Abort, alloc: Global, b: MemDisk) -> Result<(), Fail> {
     let worn = b"\x01CWL\x01\x01\0\0\xFF\xFF\xFF\xFF\xFF\xFF\xFF\xFF\0";
-    Ok(pair_of(alloc, disk_of(alloc, worn, u64::MAX)?, b)?)
+    let mut log = pair_of(alloc, disk_of(alloc, worn, u64::MAX)?, b)?;
+    let compacted = compact(alloc, &mut log);
+    let appended = log.append(b"z");
+    drop(log);
+    assert_eq!(rt; compacted?, Err(CompactFault::Worn));
+    assert_eq!(rt; appended, Ok(0));
+    Ok(())
 }
 
 #[test]
 fn each_compaction_takes_the_other_side_until_it_is_worn(rt: HostRuntime) -> Result<(), Fail> {
     let (a, b) = compacted_twice(rt.alloc())?;
     let three = b"\x01CWL\x01\x01\0\0\0\0\0\0\0\0\0\x03\x01\0\0\0\x03new\0".as_slice();
-    assert_eq!(rt; a.bytes(), three);
-    let mut log = worn(rt.alloc(), b)?;
-    assert_eq!(rt; compact(rt.alloc(), &mut log)?, Err(CompactFault::Worn));
-    assert_eq!(rt; log.append(b"z"), Ok(0));
-    Ok(())
+    let is_third = a.bytes() == three;
+    drop(a);
+    assert!(rt; is_third);
+    stays_worn(&rt, rt.alloc(), b)
 }
 
 #[test]
