@@ -147,12 +147,25 @@ impl<'a> Fields<'a> {
 
     /// A span: its part, its start and its end.
     pub fn span(&mut self, alloc: Global) -> Result<Span, Fault> {
-        let span = Span {
-            part: self.part(alloc)?,
-            from: self.long()?,
-            to: self.long()?,
-        };
-        Ok(span.copy()?)
+        let span = self.span_as_read(alloc)?;
+        let copy = span.copy();
+        drop(span);
+        Ok(copy?)
+    }
+
+    fn span_as_read(&mut self, alloc: Global) -> Result<Span, Fault> {
+        let part = self.part(alloc)?;
+        match self.ends() {
+            Ok((from, to)) => Ok(Span { part, from, to }),
+            Err(fault) => {
+                drop(part);
+                Err(fault)
+            }
+        }
+    }
+
+    fn ends(&mut self) -> Result<(u64, u64), Fault> {
+        Ok((self.long()?, self.long()?))
     }
 
     /// Properties as a JSON object.

@@ -5,7 +5,7 @@ use crate::fault::Fault;
 use crate::fields::Fields;
 use crate::states::States;
 use cw_data::{Batch, DataState};
-use cw_types::{Listed, Span};
+use cw_types::{Listed, Span, Tag};
 use std::alloc::Global;
 
 /// `data CALL ..`: a change, or a look-up. What is still unmarked is told by the transactions of
@@ -39,15 +39,34 @@ fn reserve(
     answer: &mut Answer,
 ) -> Result<(), Fault> {
     match word {
-        "reserve_batch" => records.reserve_batch(&read_batch(alloc, fields)?)?,
-        "reserve_mark" => {
-            let tag = fields.tag(alloc)?;
-            records.reserve_mark(&tag, fields.flag()?)?;
-        }
+        "reserve_batch" => reserve_batch(alloc, records, fields)?,
+        "reserve_mark" => reserve_mark(alloc, records, fields)?,
         "unreserve" => records.unreserve(),
         _ => return Err(Fault::NoCall),
     }
     answer.word("ok")
+}
+
+fn reserve_batch(
+    alloc: Global,
+    records: &mut DataState,
+    fields: &mut Fields<'_>,
+) -> Result<(), Fault> {
+    let batch = read_batch(alloc, fields)?;
+    let reserved = records.reserve_batch(&batch);
+    drop(batch);
+    Ok(reserved?)
+}
+
+fn reserve_mark(
+    alloc: Global,
+    records: &mut DataState,
+    fields: &mut Fields<'_>,
+) -> Result<(), Fault> {
+    let (tag, committed) = read_mark(alloc, fields)?;
+    let reserved = records.reserve_mark(&tag, committed);
+    drop(tag);
+    Ok(reserved?)
 }
 
 fn add(
@@ -66,18 +85,25 @@ fn add(
 }
 
 fn read_batch(alloc: Global, fields: &mut Fields<'_>) -> Result<Batch, Fault> {
+    let batch = batch_as_read(alloc, fields)?;
+    let copy = batch.copy(alloc);
+    drop(batch);
+    Ok(copy?)
+}
+
+fn batch_as_read(alloc: Global, fields: &mut Fields<'_>) -> Result<Batch, Fault> {
     let tag = fields.tag(alloc)?;
     let topic = fields.name(alloc)?;
     let Span { part, from, to } = fields.span(alloc)?;
-    let batch = Batch {
+    let values = Listed::new(values(alloc, fields)?);
+    Ok(Batch {
         tag,
         topic,
         part,
         from,
         to,
-        values: Listed::new(values(alloc, fields)?),
-    };
-    Ok(batch.copy(alloc)?)
+        values,
+    })
 }
 
 fn values(alloc: Global, fields: &mut Fields<'_>) -> Result<Vec<Listed<u8>>, Fault> {
@@ -95,10 +121,23 @@ fn mark(
     fields: &mut Fields<'_>,
     answer: &mut Answer,
 ) -> Result<(), Fault> {
-    let tag = fields.tag(alloc)?;
-    let committed = fields.flag()?;
-    records.mark(&tag, committed)?;
+    let (tag, committed) = read_mark(alloc, fields)?;
+    let marked = records.mark(&tag, committed);
+    drop(tag);
+    marked?;
     answer.word("ok")
+}
+
+// A transaction, and whether it is committed.
+fn read_mark(alloc: Global, fields: &mut Fields<'_>) -> Result<(Tag, bool), Fault> {
+    let tag = fields.tag(alloc)?;
+    match fields.flag() {
+        Ok(committed) => Ok((tag, committed)),
+        Err(fault) => {
+            drop(tag);
+            Err(fault)
+        }
+    }
 }
 
 fn take(
