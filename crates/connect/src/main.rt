@@ -5,7 +5,7 @@
 //! exits with the number of the call's status. It stands on cw_connect, and on the crates of the adapters.
 #![tactic(auto)]
 
-use cw_connect::{Status, connect, exit_number, status_of_fault};
+use cw_connect::{Outcome, Status, connect, exit_number, status_of_fault};
 use cw_disk::Disks;
 use cw_io::{FolderOutlet, FolderShelf, ReaderSource, WriterSink};
 use cw_net::{OpenGate, PortListener, SystemClock};
@@ -24,7 +24,7 @@ fn main(rt: HostRuntime) -> ExitCode {
             let mut shelf = FolderShelf::new(&rt, "feeds");
             let outlet = FolderOutlet::new(&rt, "out");
             let disks = Disks::in_folder(&rt);
-            connect(
+            let outcome = connect(
                 &rt,
                 &words,
                 disks,
@@ -35,13 +35,31 @@ fn main(rt: HostRuntime) -> ExitCode {
                 PortListener::new(&rt),
                 SystemClock::new(&rt),
                 &OpenGate,
-            )
-            .status
+            );
+            status_of(outcome)
         }
         Err(status) => status,
     };
     let mut errors = WriterSink::new(rt.stderr());
     ExitCode::from(exit_number(&status, &mut errors))
+}
+
+// How the call ended; what it gave back is let go.
+fn status_of<D: Drop, U: Drop, N: Drop>(outcome: Outcome<D, U, N>) -> Status {
+    let Outcome {
+        status,
+        disks,
+        outlet,
+        net,
+        journal,
+        receipts,
+    } = outcome;
+    drop(disks);
+    drop(outlet);
+    drop(net);
+    drop(journal);
+    drop(receipts);
+    status
 }
 
 // A file that has nothing to read, and takes nothing.
