@@ -80,7 +80,9 @@ fn run_over<R: AllocGlobal + Threads + Wait + Clock + Sync>(
         MemClock::new(0, 0),
         &OpenGate,
     );
-    left_of(rt.alloc(), &outcome, &output)
+    let left = left_of(rt.alloc(), &outcome, &output);
+    drop(outcome);
+    left
 }
 
 // The objects of a run.
@@ -94,19 +96,33 @@ fn objects_of<'k, R: AllocGlobal + Wait + Sync>(
     requires { 0 < piece }
 {
     let alloc = rt.alloc();
-    let shelf = shelf_of(alloc, calls_of(alloc, failure, Object::Shelf)?)?;
-    let links = lent(rt, links)?;
     let of_input = calls_of(alloc, failure, Object::Input)?;
     let of_output = calls_of(alloc, failure, Object::Output)?;
     let of_outlet = calls_of(alloc, failure, Object::Outlet)?;
-    let of_listener = calls_of(alloc, failure, Object::Listener)?;
+    let shelf = shelf_with(alloc, failure)?;
+    let net = listener_of(rt, links, failure)?;
     Ok(Objects {
         input: MemSource::new(script, piece, of_input),
         output: MemSink::new(alloc, 1, of_output),
         shelf,
         outlet: MemOutlet::new(alloc, of_outlet),
-        net: MemListener::new(links, of_listener),
+        net,
     })
+}
+
+// The shelf of a run.
+fn shelf_with(alloc: Global, failure: Option<Failure>) -> Result<MemShelf, AllocError> {
+    shelf_of(alloc, calls_of(alloc, failure, Object::Shelf)?)
+}
+
+// The listener of a run.
+fn listener_of<'k, R: AllocGlobal + Wait + Sync>(
+    rt: &'k R,
+    links: &'k [Mutex<MemLink>],
+    failure: Option<Failure>,
+) -> Result<MemListener<KeptLink<'k, R>>, AllocError> {
+    let of_listener = calls_of(rt.alloc(), failure, Object::Listener)?;
+    Ok(MemListener::new(lent(rt, links)?, of_listener))
 }
 
 // Links whose calls are those of others, in their order.

@@ -1,5 +1,5 @@
 //! A cluster over disks in memory.
-use cw_connect::{Status, connect};
+use cw_connect::{Outcome, Status, connect};
 use cw_disk::{Disk, Disks, MemDisk};
 use cw_io::{MemLink, MemOutlet, MemShelf, MemSink, MemSource, Outlet, Shelf, Sink, Source};
 use cw_log::Harm;
@@ -142,17 +142,32 @@ where
     let outcome = connect(
         rt, words, disks, input, output, shelf, outlet, net, clock, &OpenGate,
     );
-    Ended {
-        end: end_of(outcome.status),
-        disks: outcome.disks,
-    }
+    ended_by(outcome)
 }
 
-fn end_of(status: Status) -> End {
+fn ended_by<D, U: Drop, N: Drop>(outcome: Outcome<D, U, N>) -> Ended<D> {
+    let Outcome {
+        status,
+        disks,
+        outlet,
+        net,
+        journal,
+        receipts,
+    } = outcome;
+    let end = end_of(&status);
+    drop(status);
+    drop(outlet);
+    drop(net);
+    drop(journal);
+    drop(receipts);
+    Ended { end, disks }
+}
+
+fn end_of(status: &Status) -> End {
     match status {
         Status::Done => End::Done,
-        Status::StoreFault { disk, count } => End::StoreFault(disk, count),
-        Status::Damaged { disk, at, harm } => End::Damaged(disk, at, harm),
+        Status::StoreFault { disk, count } => End::StoreFault(*disk, *count),
+        Status::Damaged { disk, at, harm } => End::Damaged(*disk, *at, *harm),
         _ => End::Other,
     }
 }

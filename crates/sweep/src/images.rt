@@ -47,15 +47,50 @@ pub(crate) struct Bases {
 pub(crate) fn play_bases<R: AllocGlobal + Threads + Wait + Clock + Sync>(
     rt: &R,
 ) -> Result<Bases, AllocError> {
-    let commit = disks_behind(rt, empty_disks(rt.alloc()), COMMIT)?;
-    let uncompacted = disks_behind(rt, empty_disks(rt.alloc()), UNCOMPACTED)?;
-    let source = compacted(rt, &uncompacted)?;
-    Ok(Bases {
-        empty: empty_disks(rt.alloc()),
+    let sources = play_sources(rt)?;
+    match disks_behind(rt, empty_disks(rt.alloc()), COMMIT) {
+        Ok(commit) => Ok(bases_of(rt.alloc(), commit, sources)),
+        Err(fault) => {
+            drop(sources);
+            Err(fault)
+        }
+    }
+}
+
+fn bases_of(alloc: Global, commit: Disks<MemDisk>, sources: Sources) -> Bases {
+    let Sources {
+        uncompacted,
+        source,
+    } = sources;
+    Bases {
+        empty: empty_disks(alloc),
         commit,
         uncompacted,
         source,
-    })
+    }
+}
+
+// What a source leaves that is read to its end: each log on side a, and each that is compacted on side b.
+#[derive(Drop)]
+struct Sources {
+    uncompacted: Disks<MemDisk>,
+    source: Disks<MemDisk>,
+}
+
+fn play_sources<R: AllocGlobal + Threads + Wait + Clock + Sync>(
+    rt: &R,
+) -> Result<Sources, AllocError> {
+    let uncompacted = disks_behind(rt, empty_disks(rt.alloc()), UNCOMPACTED)?;
+    match compacted(rt, &uncompacted) {
+        Ok(source) => Ok(Sources {
+            uncompacted,
+            source,
+        }),
+        Err(fault) => {
+            drop(uncompacted);
+            Err(fault)
+        }
+    }
 }
 
 // The disks behind a script that is played over these.
@@ -64,7 +99,9 @@ fn disks_behind<R: AllocGlobal + Threads + Wait + Clock + Sync>(
     disks: Disks<MemDisk>,
     script: &[u8],
 ) -> Result<Disks<MemDisk>, AllocError> {
-    Ok(play(rt, disks, script)?.disks)
+    let Left { disks, output, .. } = play(rt, disks, script)?;
+    drop(output);
+    Ok(disks)
 }
 
 // The disks behind the compactions, played over what these hold.
@@ -208,7 +245,9 @@ fn open_named<R: AllocGlobal + Print + Threads + Wait + Clock + Sync>(
 ) -> io::Result<()> {
     let disks = disks_of(rt.alloc(), bases, image)?;
     let left = play(rt, disks, script)?;
-    tell(rt, &left)
+    let told = tell(rt, &left);
+    drop(left);
+    told
 }
 
 // What a run says that opened an image.

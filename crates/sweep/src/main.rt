@@ -41,7 +41,9 @@ fn open_images<R: AllocGlobal + Print + Threads + Wait + Clock + Sync>(
     lines: &[String],
 ) -> io::Result<()> {
     let bases = play_bases(rt)?;
-    open_each(rt, &bases, lines)
+    let told = open_each(rt, &bases, lines);
+    drop(bases);
+    told
 }
 
 fn open_each<R: AllocGlobal + Print + Threads + Wait + Clock + Sync>(

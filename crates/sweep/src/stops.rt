@@ -41,7 +41,9 @@ fn state_behind<R: AllocGlobal + Threads + Wait + Clock + Sync>(
 ) -> Result<LogFrames, AllocError> {
     let lines = first_lines(rt.alloc(), script, count)?;
     let left = play(rt, empty_disks(rt.alloc()), &lines)?;
-    LogFrames::of(rt.alloc(), &left.disks)
+    let frames = LogFrames::of(rt.alloc(), &left.disks);
+    drop(left);
+    frames
 }
 
 // What a run came to whose disk fails from some call on.
@@ -85,7 +87,9 @@ fn stop_in<R: AllocGlobal + Threads + Wait + Clock + Sync>(
     fuse: u64,
 ) -> Result<Stop, AllocError> {
     let left = play(rt, disks_with(rt.alloc(), at, fuse)?, &swept.script)?;
-    judge_stop(rt, swept, at, &left)
+    let stop = judge_stop(rt, swept, at, &left);
+    drop(left);
+    stop
 }
 
 // What a run came to, one of whose disks may have failed.
@@ -126,19 +130,21 @@ fn opens_to<R: AllocGlobal + Threads + Wait + Clock + Sync>(
     way: Way,
 ) -> Result<bool, AllocError> {
     let again = play(rt, images_of(rt.alloc(), &left.disks, way)?, b"")?;
-    if !matches!(again.end, End::Done) {
-        return Ok(false);
-    }
-    is_around(rt.alloc(), states, line, &again)
+    let is_kept = is_around(rt.alloc(), states, line, &again);
+    drop(again);
+    is_kept
 }
 
-// Whether the logs that a run left are those before a line or behind it.
+// Whether a run came to its end, and the logs that it left are those before a line or behind it.
 fn is_around(
     alloc: Global,
     states: &[LogFrames],
     line: usize,
     left: &Left,
 ) -> Result<bool, AllocError> {
+    if !matches!(left.end, End::Done) {
+        return Ok(false);
+    }
     let found = LogFrames::of(alloc, &left.disks)?;
     Ok(is_at(states, line, &found) || is_at(states, line.saturating_add(1), &found))
 }
