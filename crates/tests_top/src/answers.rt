@@ -19,11 +19,29 @@ struct Left {
 }
 
 fn left_by(outcome: Outcome<MemDisk, MemOutlet, MemListener<MemLink>>, output: MemSink) -> Left {
+    let Outcome {
+        status,
+        disks,
+        outlet,
+        net,
+        journal,
+        receipts,
+    } = outcome;
+    let is_write_fault = is_write_fault(&status);
+    drop(status);
+    drop(outlet);
+    drop(net);
+    drop(journal);
+    drop(receipts);
     Left {
-        is_write_fault: matches!(outcome.status, Status::WriteFault),
+        is_write_fault,
         output,
-        disks: outcome.disks,
+        disks,
     }
+}
+
+fn is_write_fault(status: &Status) -> bool {
+    matches!(status, Status::WriteFault)
 }
 
 // Plays a script, over an output that fails at some calls.
@@ -56,14 +74,51 @@ fn played<R: AllocGlobal + Threads + Wait + std::rt::Clock + Sync>(
     Ok(left_by(outcome, output))
 }
 
+// What two scripts are answered, of which the second is played over what the first left.
+#[derive(Drop)]
+struct Answers {
+    is_write_fault: bool,
+    first: MemSink,
+    second: MemSink,
+}
+
+// The first script's second answer fails.
+fn answers_of<R: AllocGlobal + Threads + Wait + std::rt::Clock + Sync>(
+    rt: &R,
+) -> Result<Answers, AllocError> {
+    let failing = vec![in rt.alloc(); 1u64]?;
+    let Left {
+        is_write_fault,
+        output,
+        disks,
+    } = played(
+        rt,
+        empty_disks(rt.alloc()),
+        b"init 0\ninit 1\ninit 2\n",
+        failing,
+    )?;
+    let second = answer_over(rt, disks)?;
+    Ok(Answers {
+        is_write_fault,
+        first: output,
+        second,
+    })
+}
+
+fn answer_over<R: AllocGlobal + Threads + Wait + std::rt::Clock + Sync>(
+    rt: &R,
+    disks: Disks<MemDisk>,
+) -> Result<MemSink, AllocError> {
+    let Left { output, disks, .. } = played(rt, disks, b"init 1\n", Vec::new(rt.alloc()))?;
+    drop(disks);
+    Ok(output)
+}
+
 #[test]
 fn an_answer_that_fails_leaves_its_event(rt: HostRuntime) -> Result<(), Fail> {
-    let failing = vec![in rt.alloc(); 1u64]?;
-    let disks = empty_disks(rt.alloc());
-    let left = played(&rt, disks, b"init 0\ninit 1\ninit 2\n", failing)?;
-    assert!(rt; left.is_write_fault);
-    assert_eq!(rt; left.output.bytes(), b"epoch 1\n".as_slice());
-    let again = played(&rt, left.disks, b"init 1\n", Vec::new(rt.alloc()))?;
-    assert_eq!(rt; again.output.bytes(), b"epoch 2\n".as_slice());
+    let answers = answers_of(&rt)?;
+    assert!(rt; answers.is_write_fault);
+    assert_eq!(rt; answers.first.bytes(), b"epoch 1\n".as_slice());
+    assert_eq!(rt; answers.second.bytes(), b"epoch 2\n".as_slice());
     Ok(())
 }

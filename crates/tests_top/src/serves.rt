@@ -41,22 +41,27 @@ struct Seen {
 }
 
 // Looks at what a server left.
-fn look(outcome: Outcome<MemDisk, MemOutlet, MemListener<MemLink>>) -> Seen {
-    let Outcome {
-        status,
-        journal,
-        receipts,
-        mut net,
-        ..
-    } = outcome;
+fn look(outcome: &mut Outcome<MemDisk, MemOutlet, MemListener<MemLink>>) -> Seen {
     Seen {
-        is_done: matches!(status, Status::Done),
-        is_net_fault: matches!(status, Status::NetFault),
-        entries: journal.entries().len(),
-        good: count_of_good(journal.entries()),
-        receipts: receipts.len(),
-        has_more: matches!(net.accept(), Ok(Some(_))),
+        is_done: is_done(&outcome.status),
+        is_net_fault: is_net_fault(&outcome.status),
+        entries: outcome.journal.entries().len(),
+        good: count_of_good(outcome.journal.entries()),
+        receipts: outcome.receipts.len(),
+        has_more: has_more(&mut outcome.net),
     }
+}
+
+fn is_done(status: &Status) -> bool {
+    matches!(status, Status::Done)
+}
+
+fn is_net_fault(status: &Status) -> bool {
+    matches!(status, Status::NetFault)
+}
+
+fn has_more(net: &mut MemListener<MemLink>) -> bool {
+    matches!(net.accept(), Ok(Some(_)))
 }
 
 fn count_of_good(entries: &[JournalEntry]) -> usize {
@@ -82,7 +87,7 @@ fn served<R: AllocGlobal + Threads + Wait + std::rt::Clock + Sync>(
     let mut shelf = MemShelf::new(alloc, Vec::new(alloc));
     let outlet = MemOutlet::new(alloc, Vec::new(alloc));
     let clock = MemClock::new(0, 1);
-    let outcome = connect(
+    let mut outcome = connect(
         rt,
         &words,
         disks,
@@ -94,7 +99,9 @@ fn served<R: AllocGlobal + Threads + Wait + std::rt::Clock + Sync>(
         clock,
         &OpenGate,
     );
-    Ok(look(outcome))
+    let seen = look(&mut outcome);
+    drop(outcome);
+    Ok(seen)
 }
 
 #[test]
