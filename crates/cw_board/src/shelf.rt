@@ -1,5 +1,5 @@
 //! A worker's config state on the board.
-ghost use Rattle.std.specs.Prelude.{◌≡◌, ◌+◌, [], ◌∷◌, ◌++◌, OnOk, OnErr, option_map, length};
+ghost use Rattle.std.specs.Prelude.{◌≡◌, ◌+◌, [], ◌∷◌, ◌++◌, OnOk, OnErr, length};
 ghost use Rattle.cw_config.specs.Compaction.{config_in};
 ghost use Rattle.std.specs.List.{filter_map};
 
@@ -15,15 +15,6 @@ pub struct Shelf {
     ghost counted: { count ≡ length config },
 }
 
-fn text_of(applied: &Applied) -> Option<&[u8]>
-    ensures { option_map (λ text. text.now) result ≡ applied.now.value }
-{
-    match &applied.value {
-        Some(text) => Some(text.as_slice()),
-        None => None,
-    }
-}
-
 // Applies a record that is one of the config log and may stand there.
 fn apply(config: &mut ConfigState, applied: &Applied) -> Result<(), AllocError>
     ensures ok { OnOk result (config.new ≡ config.old ++ filter_map config_in (applied.now ∷ [])) }
@@ -34,7 +25,7 @@ fn apply(config: &mut ConfigState, applied: &Applied) -> Result<(), AllocError>
         applied.offset,
         applied.stamp,
         applied.key.as_slice(),
-        text_of(applied),
+        applied.text(),
     ) {
         Ok(()) => Ok(()),
         Err(_) => Err(AllocError),

@@ -1,5 +1,5 @@
 //! A record of a log.
-ghost use Rattle.std.specs.Prelude.{◌≡◌, IfOk};
+ghost use Rattle.std.specs.Prelude.{◌≡◌, IfOk, option_map};
 
 use cw_types::Listed;
 use std::alloc::AllocError;
@@ -28,6 +28,16 @@ impl Applied {
             key: self.key.copy()?,
             value: copy_of_value(&self.value)?,
         })
+    }
+
+    /// The bytes of its value.
+    pub fn text(&self) -> Option<&[u8]>
+        ensures { option_map (λ text. text.now) result ≡ self.now.value }
+    {
+        match &self.value {
+            Some(text) => Some(text.as_slice()),
+            None => None,
+        }
     }
 }
 

@@ -7,13 +7,12 @@ ghost use Rattle.cw_ticks.specs.Turns.{rule_of};
 ghost use Rattle.cw_run.specs.Resting.{rests, rests_in};
 ghost use Rattle.cw_cluster.specs.Turning.{is_idle_at, rests_at};
 
-use crate::stepping::is_sink;
 use cw_disk::Disk;
 use cw_model::InstancePhase;
 use cw_sinktask::gather;
 use cw_sourcetask::batches_take_some;
 use cw_tasks::waits;
-use cw_ticks::{Turn, next_turn, source_turn};
+use cw_ticks::{Turn, is_sink, next_turn, source_turn};
 use cw_world::World;
 use std::alloc::{AllocError, Global};
 

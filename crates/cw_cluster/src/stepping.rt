@@ -1,7 +1,6 @@
 //! A step of an instance, whichever it is of.
-ghost use Rattle.std.specs.Prelude.{◌≡◌, ◌<◌, length};
+ghost use Rattle.std.specs.Prelude.{◌<◌, length};
 ghost use Rattle.cw_script.specs.declared.directive.Directive.TheVariants as directive;
-ghost use Rattle.cw_model.specs.Tasks.{is_sink};
 ghost use Rattle.cw_cluster.specs.Breaking.{IsAlive};
 ghost use Rattle.cw_cluster.specs.Playing.{IsOutletKept, PlaysDirective};
 ghost use Rattle.cw_cluster.specs.Stepping.{Steps};
@@ -11,8 +10,9 @@ use crate::outcome::Outcome;
 use cw_disk::Disk;
 use cw_io::Outlet;
 use cw_lines::DriveEnd;
-use cw_model::{Did, Instance};
+use cw_model::Did;
 use cw_sinktask::SinkFault;
+use cw_ticks::is_sink;
 use cw_world::World;
 use std::alloc::Global;
 
@@ -58,15 +58,5 @@ pub(crate) fn play_step<D: Disk, U: Outlet>(
         }
         Err(SinkFault::World(fault)) => { answers.say(world.cluster().group_name(), i, Err(fault)) }
         Err(SinkFault::Outlet) => Err(DriveEnd::OutletFault),
-    }
-}
-
-// Whether an instance is a task of a sink.
-pub(crate) fn is_sink(instance: &Instance) -> bool
-    ensures { result ≡ is_sink instance.now }
-{
-    match &instance.task {
-        Some(task) => !task.class.is_source(),
-        None => false,
     }
 }

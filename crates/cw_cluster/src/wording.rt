@@ -1,7 +1,6 @@
 //! The words in which an answer tells what a directive came to.
-ghost use Rattle.std.specs.Prelude.{◌≡◌, ◌++◌, map, codes, false, IfOk, OnOk};
-ghost use Rattle.serde_json.specs.View.{view};
-ghost use Rattle.serde_json.specs.Written.{compact_text, has_float};
+ghost use Rattle.std.specs.Prelude.{◌≡◌, ◌++◌, map, codes, IfOk, OnOk};
+ghost use Rattle.serde_json.specs.Written.{compact_text};
 ghost use Rattle.uuid.specs.Text.{lower, hyphenated_text};
 ghost use Rattle.cw_rest.specs.Offsets.{partition_of};
 ghost use Rattle.cw_model.specs.StepText.{step_text};
@@ -15,9 +14,9 @@ use crate::outcome::Outcome;
 use crate::texts::{ItemText, LogText, TickText};
 use cw_keys::text_of_name;
 use cw_model::Did;
+use cw_reply::partition_value;
 use cw_route::Reply;
 use cw_types::{Item, Name, PartKey, Span};
-use serde_json::{Value, json};
 use std::alloc::{AllocError, Global};
 use std::io;
 use std::io::Write;
@@ -226,26 +225,4 @@ fn partition_text(alloc: Global, part: &PartKey) -> Result<Vec<u8>, AllocError>
     ensures { IfOk result (λ text. text.items ≡ compact_text (partition_of part.now)) }
 {
     partition_value(alloc, part)?.to_vec(alloc)
-}
-
-// The same as a value.
-fn partition_value(alloc: Global, part: &PartKey) -> Result<Value, AllocError>
-    ensures value { IfOk result (λ value. view value ≡ partition_of part.now) }
-    ensures whole { OnOk result (has_float (partition_of part.now) ≡ false) }
-{
-    match part {
-        PartKey::Raw(_) => Ok(Value::Null),
-        PartKey::File { feed, .. } => {
-            let feed = text_of_name(feed);
-            json!(in alloc; {"filename": feed})
-        }
-        PartKey::Seq { index, .. } => {
-            let index = *index;
-            json!(in alloc; {"sequence": index})
-        }
-        PartKey::Sink { topic, .. } => {
-            let topic = text_of_name(topic);
-            json!(in alloc; {"kafka_partition": 0u32, "kafka_topic": topic})
-        }
-    }
 }

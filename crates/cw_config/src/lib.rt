@@ -19,6 +19,6 @@ mod tables;
 
 pub use fault::ApplyFault;
 pub use laws::compacted_configs_say_the_same;
-pub use records::ConfigRecord;
+pub use records::{ConfigRecord, record_in};
 pub use reserved::ReservedConfigs;
 pub use state::ConfigState;

@@ -1,8 +1,10 @@
 //! A record of the config log.
 ghost use Rattle.std.specs.Prelude.{◌≡◌, ℕ, None, Some, Err, IfOk, option_map};
 ghost use Rattle.cw_config.specs.Acceptance.{record_of};
+ghost use Rattle.cw_config.specs.Compaction.{config_in};
 
 use crate::fault::ApplyFault;
+use cw_bytes::Applied;
 use cw_keys::{ConfigKey, ConfigValue, KeyFault, read_config};
 use std::alloc::{AllocError, Global};
 
@@ -65,5 +67,22 @@ pub fn read_record(
         Err(KeyFault::BadKey) => Err(ApplyFault::BadRecord(offset)),
         Err(KeyFault::BadValue) => Err(ApplyFault::BadRecord(offset)),
         Err(KeyFault::Memory) => Err(ApplyFault::Memory),
+    }
+}
+
+/// The record that fields are, if they are one. Its only error is want of memory.
+pub fn record_in(alloc: Global, applied: &Applied) -> Result<Option<ConfigRecord>, AllocError>
+    ensures { IfOk result (λ found. found ≡ config_in applied.now) }
+{
+    match read_config(alloc, applied.key.as_slice(), applied.text()) {
+        Ok((key, value)) => Ok(Some(ConfigRecord {
+            offset: applied.offset,
+            stamp: applied.stamp,
+            key,
+            value,
+        })),
+        Err(KeyFault::BadKey) => Ok(None),
+        Err(KeyFault::BadValue) => Ok(None),
+        Err(KeyFault::Memory) => Err(AllocError),
     }
 }

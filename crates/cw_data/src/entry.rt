@@ -179,7 +179,8 @@ fn same_texts(a: &[u8], b: &[u8]) -> bool
     a == b
 }
 
-fn same_values(a: &[Listed<u8>], b: &[Listed<u8>]) -> bool
+/// Whether values are the same.
+pub fn same_values(a: &[Listed<u8>], b: &[Listed<u8>]) -> bool
     ensures { IsTrue result ↔ (b.now ≡ a.now) }
 {
     if a.len() != b.len() {

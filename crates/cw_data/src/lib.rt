@@ -13,5 +13,5 @@ mod topic;
 mod unmarked;
 
 pub use body::{read_data, write_data};
-pub use entry::{Batch, DataEntry};
+pub use entry::{Batch, DataEntry, same_values};
 pub use state::DataState;

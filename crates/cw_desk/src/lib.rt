@@ -14,4 +14,4 @@ mod turning;
 pub use comparing::{Disagree, Member, compare};
 pub use laws::turns_keep_the_journal;
 pub use lengths::Lengths;
-pub use turning::turn;
+pub use turning::{entry_of_fault, turn};

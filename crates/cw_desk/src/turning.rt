@@ -79,8 +79,8 @@ fn entry_of(
     }
 }
 
-// The entry of a call that a fault stopped.
-fn entry_of_fault(
+/// The entry of a call that a fault stopped. Its only error is want of memory.
+pub fn entry_of_fault(
     alloc: Global,
     cluster: &Cluster,
     w: u32,

@@ -10,9 +10,9 @@ ghost use Rattle.cw_herder.specs.declared.op.Op.TheVariants as op;
 ghost use Rattle.cw_herder.specs.Submits.{configs_op, asked_op, config_op};
 
 use crate::op::Op;
-use cw_keys::Target;
+use cw_keys::{Target, text_of_name};
 use cw_ops::offsets_of;
-use cw_reply::{Asked, View, asked_in, config_in, text_of_name};
+use cw_reply::{Asked, View, asked_in, config_in};
 use cw_route::Call;
 use cw_types::{Listed, Name};
 use std::alloc::{AllocError, Global};

@@ -4,9 +4,9 @@ ghost use Rattle.cw_io.specs.Calls.{no_calls, is_listed, raised, after_call};
 
 use std::marker::Model;
 
-// The calls so far, and the numbers of those that fail.
+/// The calls so far, counted from 0, and the numbers of those that fail.
 #[derive(Debug, Drop)]
-pub(crate) struct CallPlan {
+pub struct CallPlan {
     failing: Vec<u64>,
     number: u64,
     faults: u64,
@@ -21,8 +21,8 @@ impl Model for CallPlan {
 }
 
 impl CallPlan {
-    // Before the first call.
-    pub(crate) fn new(failing: Vec<u64>) -> CallPlan
+    /// Before the first call, with a count of 0.
+    pub fn new(failing: Vec<u64>) -> CallPlan
         ensures { result ≡ no_calls failing.items }
     {
         CallPlan {
@@ -32,15 +32,15 @@ impl CallPlan {
         }
     }
 
-    // How many calls failed.
-    pub(crate) fn faults(&self) -> u64
+    /// How many calls failed.
+    pub fn faults(&self) -> u64
         ensures { result ≡ self.now.faults }
     {
         self.faults
     }
 
-    // Counts the next call, and tells whether it fails.
-    pub(crate) fn fails_next(&mut self) -> bool
+    /// Counts the next call, and tells whether it fails.
+    pub fn fails_next(&mut self) -> bool
         ensures listed { result ≡ is_listed self.old }
         ensures after { self.new ≡ after_call result self.old }
         ensures later { self.old.faults ≤ self.new.faults }
@@ -53,8 +53,8 @@ impl CallPlan {
         fails
     }
 
-    // Counts a failure of the call that was counted last.
-    pub(crate) fn count_fault(&mut self)
+    /// Counts a failure of the call that was counted last.
+    pub fn count_fault(&mut self)
         ensures after { self.new ≡ record self.old { faults = raised self.old.faults } }
         ensures later { self.old.faults ≤ self.new.faults }
     {

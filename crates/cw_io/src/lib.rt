@@ -23,6 +23,7 @@ mod standard;
 mod tcp;
 mod traits;
 
+pub use call_plan::CallPlan;
 pub use folder::FolderShelf;
 pub use folder_outlet::FolderOutlet;
 pub use link::{Link, send_all};

@@ -4,7 +4,7 @@ ghost use Rattle.cw_types.specs.Answers.{Gives};
 ghost use Rattle.cw_keys.specs.ConfigKeys.{config_key_text};
 ghost use Rattle.cw_keys.specs.Configs.{config_of, config_text, is_record, IsTextOf};
 
-use crate::config_key::{ConfigKey, may_be_removed, read_key, write_key};
+use crate::config_key::{ConfigKey, may_be_removed, read_config_key, write_key};
 use crate::config_value::{ConfigValue, read_value_of, write_value};
 use crate::fault::KeyFault;
 use std::alloc::{AllocError, Global};
@@ -20,7 +20,7 @@ pub fn read_config(
     ensures record { Gives KeyFault.Memory result (config_of key.now (option_map (λ text. text.now) value.entry)) }
     ensures writable { IfOk result (λ read. is_record read.0 read.1 ≡ true) }
 {
-    let Some(key) = read_key(alloc, key)? else {
+    let Some(key) = read_config_key(alloc, key)? else {
         return Err(KeyFault::BadKey);
     };
     let Some(text) = value else {

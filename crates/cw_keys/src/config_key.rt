@@ -71,8 +71,8 @@ fn read_set_key(alloc: Global, bytes: &[u8]) -> Result<Option<ConfigKey>, AllocE
     }
 }
 
-// The key that bytes are.
-pub(crate) fn read_key(alloc: Global, bytes: &[u8]) -> Result<Option<ConfigKey>, AllocError>
+/// The key that bytes are, where they are one. Its only error is want of memory.
+pub fn read_config_key(alloc: Global, bytes: &[u8]) -> Result<Option<ConfigKey>, AllocError>
     ensures { IfOk result (λ key. key ≡ config_key bytes.now) }
 {
     if bytes.starts_with(b"connector-") {

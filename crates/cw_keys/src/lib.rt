@@ -20,7 +20,7 @@ mod target;
 mod trace;
 
 pub use config::{read_config, write_config};
-pub use config_key::ConfigKey;
+pub use config_key::{ConfigKey, read_config_key};
 pub use config_value::ConfigValue;
 pub use fault::KeyFault;
 pub use laws::{keys_are_their_texts, values_are_read_again};

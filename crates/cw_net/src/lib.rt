@@ -8,7 +8,6 @@
 //! which are the trusted edge.
 #![tactic(auto)]
 
-mod call_plan;
 mod clock;
 mod gate;
 mod listener;

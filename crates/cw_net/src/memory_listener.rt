@@ -5,9 +5,8 @@ ghost use Rattle.cw_types.specs.Faults.{Rose};
 ghost use Rattle.cw_io.specs.Calls.{no_calls, is_listed, after_call};
 ghost use Rattle.cw_net.specs.Accepting.{links_in, is_end};
 
-use crate::call_plan::CallPlan;
 use crate::listener::Listener;
-use cw_io::{Failed, Link};
+use cw_io::{CallPlan, Failed, Link};
 use cw_types::Past;
 use std::collections::VecDeque;
 use std::marker::Model;

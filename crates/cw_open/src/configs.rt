@@ -1,5 +1,5 @@
 //! The config log.
-ghost use Rattle.std.specs.Prelude.{◌≡◌, ◌↔◌, ℕ, List, [], Option, Some, None, IfOk, IsTrue, IsSome, option_map};
+ghost use Rattle.std.specs.Prelude.{◌≡◌, ◌↔◌, ℕ, List, [], Option, Some, None, IfOk, IsTrue, IsSome};
 ghost use Rattle.std.specs.Prelude.{if◌then◌else◌};
 ghost use Rattle.cw_keys.specs.declared.config_key.ConfigKey.{ConfigKey};
 ghost use Rattle.cw_config.specs.declared.records.ConfigRecord.{ConfigRecord};
@@ -14,9 +14,9 @@ ghost use Rattle.cw_open.specs.PassedConfigs.{TakesConfig, TakesConfigs, MayBeSt
 
 use crate::waiting::have_tasks_apart;
 use cw_bytes::Applied;
-use cw_config::{ApplyFault, ConfigRecord, ConfigState};
+use cw_config::{ApplyFault, ConfigRecord, ConfigState, record_in};
 use cw_json::Props;
-use cw_keys::{ConfigKey, ConfigValue, KeyFault, Target, read_config};
+use cw_keys::{ConfigKey, ConfigValue, Target};
 use cw_plugin::{is_faultless, task_of};
 use cw_types::{Listed, Name};
 use std::alloc::{AllocError, Global};
@@ -63,41 +63,12 @@ fn take_config(
     requires { AreAllowedConfigs [] passed.old }
     ensures { IfOk result (TakesConfig passed.old applied.now passed.new) }
 {
-    match read_record(alloc, applied)? {
+    match record_in(alloc, applied)? {
         Some(read) => {
             let taken = take_record(alloc, passed, applied, &read)?;
             Ok(taken)
         }
         None => Ok(false),
-    }
-}
-
-/// The record of the config log that a key and a value are, if they are one.
-pub(crate) fn read_record(
-    alloc: Global,
-    applied: &Applied,
-) -> Result<Option<ConfigRecord>, AllocError>
-    ensures { IfOk result (λ read. read ≡ config_in applied.now) }
-{
-    match read_config(alloc, applied.key.as_slice(), text_of(applied)) {
-        Ok((key, value)) => Ok(Some(ConfigRecord {
-            offset: applied.offset,
-            stamp: applied.stamp,
-            key,
-            value,
-        })),
-        Err(KeyFault::Memory) => Err(AllocError),
-        Err(KeyFault::BadKey) => Ok(None),
-        Err(KeyFault::BadValue) => Ok(None),
-    }
-}
-
-fn text_of(applied: &Applied) -> Option<&[u8]>
-    ensures { option_map (λ text. text.now) result ≡ applied.now.value }
-{
-    match &applied.value {
-        Some(text) => Some(text.as_slice()),
-        None => None,
     }
 }
 
@@ -128,7 +99,7 @@ fn apply(passed: &mut ConfigState, applied: &Applied) -> Result<bool, AllocError
         applied.offset,
         applied.stamp,
         applied.key.as_slice(),
-        text_of(applied),
+        applied.text(),
     ) {
         Ok(()) => Ok(true),
         Err(ApplyFault::BadRecord(_)) => Ok(false),

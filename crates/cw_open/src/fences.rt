@@ -9,9 +9,8 @@ ghost use Rattle.cw_config.specs.Compaction.{config_in, configs_in};
 ghost use Rattle.cw_model.specs.Fences.{StandingFence};
 ghost use Rattle.cw_open.specs.Standing.{AreFences, Fences, Notes, fences_at};
 
-use crate::configs::read_record;
 use cw_bytes::Applied;
-use cw_config::ConfigRecord;
+use cw_config::{ConfigRecord, record_in};
 use cw_keys::ConfigKey;
 use cw_types::{Listed, Name};
 use std::alloc::{AllocError, Global};
@@ -120,7 +119,7 @@ fn put(alloc: Global, table: &mut FenceTable, applied: &Applied) -> Result<(), A
     ensures { OnOk result ((records : List ConfigRecord) → AreFences table.old records →
         AreFences table.new (records ++ filter_map config_in (applied.now ∷ []))) }
 {
-    match read_record(alloc, applied)? {
+    match record_in(alloc, applied)? {
         Some(read) => {
             add(alloc, table, &read)?;
             Ok(())

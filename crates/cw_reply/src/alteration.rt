@@ -8,7 +8,7 @@ ghost use Rattle.cw_rest.specs.Offsets as offsets;
 ghost use Rattle.cw_reply.specs.Alterations.{alteration_in};
 
 use crate::body::has_members;
-use crate::names::{count_at, name_at, u64_at};
+use cw_keys::{count_at, name_at, offset_name, u64_at};
 use cw_txn::SetOffset;
 use cw_types::{Name, PartKey};
 use serde_json::Value;
@@ -170,16 +170,6 @@ pub(crate) fn is_of_type(is_source: bool, part: &PartKey) -> bool
         PartKey::Raw(_) => false,
         PartKey::File { .. } | PartKey::Seq { .. } => is_source,
         PartKey::Sink { .. } => !is_source,
-    }
-}
-
-// The member that holds a part's offset.
-fn offset_name(part: &PartKey) -> &'static str
-    ensures { result.now ≡ offset_name part.now }
-{
-    match part {
-        PartKey::Raw(_) | PartKey::File { .. } | PartKey::Seq { .. } => "position",
-        PartKey::Sink { .. } => "kafka_offset",
     }
 }
 

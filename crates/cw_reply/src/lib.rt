@@ -9,17 +9,16 @@
 mod alteration;
 mod body;
 mod message;
-mod names;
 mod offset;
 mod page;
 mod placed;
 mod replies;
 mod status;
+mod texts;
 mod view;
 
 pub use body::{Asked, asked_in, config_in};
 pub use message::{failed_reply, full_reply, memory_reply, rebalancing};
-pub use names::text_of_name;
-pub use offset::{parts_seen, sets_in};
+pub use offset::{partition_value, parts_seen, sets_in};
 pub use replies::reply;
 pub use view::View;

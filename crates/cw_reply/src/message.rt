@@ -4,7 +4,8 @@ ghost use Rattle.serde_json.specs.View.{view};
 ghost use Rattle.serde_json.specs.Written.{has_float};
 ghost use Rattle.cw_rest.specs.Messages as message;
 
-use crate::names::{between, text_of_name};
+use crate::texts::between;
+use cw_keys::text_of_name;
 use cw_plugin::PluginFault;
 use cw_route::{Reply, RouteFault};
 use cw_types::{Listed, LogName, Name, TaskId};

@@ -18,13 +18,12 @@ ghost use Rattle.cw_reply.specs.View.{seen_in};
 
 use crate::alteration::{Alteration, alterations_of, sets_by};
 use crate::message::{bad_body, bad_offset, no_connector, not_stopped, rebalancing, replied};
-use crate::names::text_of_name;
 use crate::page::{is_source, message_value};
 use crate::placed::{Placed, in_order};
 use crate::replies::is_there;
 use crate::view::View;
 use cw_json::read_value;
-use cw_keys::Target;
+use cw_keys::{Target, text_of_name};
 use cw_route::Reply;
 use cw_txn::SetOffset;
 use cw_types::{Name, PartKey};
@@ -32,8 +31,8 @@ use serde_json::{Value, json};
 use std::alloc::{AllocError, Global};
 use std::collections::BTreeSet;
 
-// A part as a partition.
-pub(crate) fn partition_value(alloc: Global, part: &PartKey) -> Result<Value, AllocError>
+/// A part as a partition of Connect's offsets (KIP-875). Its only error is want of memory.
+pub fn partition_value(alloc: Global, part: &PartKey) -> Result<Value, AllocError>
     ensures value { IfOk result (λ value. view value ≡ offsets.partition_of part.now) }
     ensures whole { OnOk result (has_float (offsets.partition_of part.now) ≡ false) }
 {

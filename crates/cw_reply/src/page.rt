@@ -5,10 +5,11 @@ ghost use Rattle.serde_json.specs.View.{view};
 ghost use Rattle.cw_rest.specs.Pages as page;
 ghost use Rattle.cw_reply.specs.View.{seen_in};
 
-use crate::names::{text_of_name, text_value};
+use crate::texts::text_value;
 use crate::view::View;
 use cw_config::ConfigState;
 use cw_json::{Props, value_of};
+use cw_keys::text_of_name;
 use cw_plugin::Class;
 use cw_types::{Name, TaskId};
 use serde_json::{Map, Value, json};

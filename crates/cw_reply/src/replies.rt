@@ -16,7 +16,6 @@ use crate::message::{
     already_there, bad_body, bad_config, bad_name, empty_reply, no_connector, no_status, no_task,
     not_called, rebalancing, replied,
 };
-use crate::names::text_of_name;
 use crate::offset::{alter, offsets, reset};
 use crate::page::{
     classes_value, info_seen, info_value, names_value, properties_value, tasks_value,
@@ -24,6 +23,7 @@ use crate::page::{
 use crate::status::{connector_status, task_status};
 use crate::view::View;
 use cw_json::Props;
+use cw_keys::text_of_name;
 use cw_plugin::{PluginFault, check_config};
 use cw_route::{Call, Reply};
 use cw_types::{Item, Name, TaskId};

@@ -7,11 +7,11 @@ ghost use Rattle.cw_keys.specs.Statuses.{trace_data};
 ghost use Rattle.cw_rest.specs.Pages as page;
 ghost use Rattle.cw_reply.specs.View.{seen_in};
 
-use crate::names::{between, text_of_name, text_value};
 use crate::page::{tasks_of, type_text};
+use crate::texts::{between, text_value};
 use crate::view::View;
 use cw_json::Text;
-use cw_keys::{State, StatusValue};
+use cw_keys::{State, StatusValue, text_of_name};
 use cw_types::{Item, Name, TaskId};
 use serde_json::{Value, json};
 use std::alloc::{AllocError, Global};

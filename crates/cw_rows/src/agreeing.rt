@@ -1,15 +1,15 @@
 //! Whether the feeds agree with what was committed of them.
-ghost use Rattle.std.specs.Prelude.{◌≡◌, ◌↔◌, IsTrue, IfOk, [], ◌∷◌};
+ghost use Rattle.std.specs.Prelude.{◌↔◌, IsTrue, IfOk, [], ◌∷◌};
 ghost use Rattle.cw_feed.specs.Feeds.{IsOfSource};
 ghost use Rattle.cw_feed.specs.Yield.{HasYield, Yield};
 ghost use Rattle.cw_model.specs.Committed.{Agrees, BatchAgrees};
 
 use crate::batches::listed;
 use crate::cluster::Cluster;
-use cw_data::{Batch, DataEntry};
+use cw_data::{Batch, DataEntry, same_values};
 use cw_feed::{Feeds, yields_are_one};
 use cw_txn::Coordinator;
-use cw_types::{Listed, PartKey};
+use cw_types::PartKey;
 use std::alloc::{AllocError, Global};
 
 impl Cluster {
@@ -104,25 +104,4 @@ fn is_of_source(part: &PartKey) -> bool
         PartKey::File { .. } | PartKey::Seq { .. } => true,
         PartKey::Raw(_) | PartKey::Sink { .. } => false,
     }
-}
-
-// Whether values are the same.
-fn same_values(a: &[Listed<u8>], b: &[Listed<u8>]) -> bool
-    ensures { IsTrue result ↔ (b.now ≡ a.now) }
-{
-    if a.len() != b.len() {
-        return false;
-    }
-    for at in 0..a.len() {
-        if !same_texts(a[at].as_slice(), b[at].as_slice()) {
-            return false;
-        }
-    }
-    true
-}
-
-fn same_texts(a: &[u8], b: &[u8]) -> bool
-    ensures { IsTrue result ↔ (b.now ≡ a.now) }
-{
-    a == b
 }

@@ -26,7 +26,7 @@ pub(crate) fn tag_of(instance: &Instance) -> Result<Tag, AllocError>
 }
 
 /// The part of a turn.
-pub(crate) fn part_at(instance: &Instance, turn: u32) -> &PartKey
+pub fn part_at(instance: &Instance, turn: u32) -> &PartKey
     requires { turn < length (parts_of instance.now) }
     ensures { result.now ≡ part_at turn instance.now }
 {
@@ -78,8 +78,8 @@ fn ends_badly(feeds: &Feeds, part: &PartKey, count: u64, from: u64, to: u64) -> 
     }
 }
 
-// How many records each of a task's sequences has.
-fn count_of(instance: &Instance) -> u64
+/// How many records each of a task's sequences has.
+pub fn count_of(instance: &Instance) -> u64
     ensures { result ≡ count_of instance.now }
 {
     match &instance.task {

@@ -41,5 +41,8 @@ mod steps;
 mod workers;
 mod writes;
 
+pub use batches::{count_of, part_at};
 pub use cluster::Cluster;
 pub use leading::FenceFrame;
+pub use planning::configured_items;
+pub use reporting::connector_of;

@@ -24,7 +24,7 @@ impl Cluster {
         ensures { IsOrWants (store_plan w) self.old self.new result }
     {
         self.test_worker(w)?;
-        let Ok(items) = configured(self.alloc, self.topics.configs()) else {
+        let Ok(items) = configured_items(self.topics.configs()) else {
             return Err(WorldFault::Memory);
         };
         match self.circle.store_plan(self.alloc, w, items.as_slice()) {
@@ -35,13 +35,14 @@ impl Cluster {
     }
 }
 
-/// The configured connectors' items, in item order.
+/// The configured connectors' items, in item order. Its only error is want of memory.
 #[tactic(auto, using(crate::proofs::Planned::listed_items))]
-pub(crate) fn configured(alloc: Global, configs: &ConfigState) -> Result<Vec<Item>, AllocError>
+pub fn configured_items(configs: &ConfigState) -> Result<Vec<Item>, AllocError>
     ensures items { IfOk result (λ items. items.items ≡ configured_items configs.now) }
     ensures rising { IfOk result (λ items. IsStrictlySortedBy item_cmp items.items) }
 {
     let names = configs.connectors()?;
+    let alloc = *names.allocator();
     let items = items_of(alloc, configs, names.as_slice())?;
     let set = ItemSet::of(alloc, items.as_slice())?;
     let items = set.into_items(alloc)?;

@@ -129,8 +129,8 @@ fn aimed_state(item: &Item, target: Target) -> State
     }
 }
 
-// The connector of an item.
-fn connector_of(item: &Item) -> &Name
+/// The connector of an item.
+pub fn connector_of(item: &Item) -> &Name
     ensures { result.now ≡ connector_of item.now }
 {
     match item {

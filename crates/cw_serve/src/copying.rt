@@ -1,6 +1,5 @@
-//! Copies of instances, and whether an instance is a sink's task.
+//! Copies of instances.
 ghost use Rattle.std.specs.Prelude.{◌≡◌, IfOk};
-ghost use Rattle.cw_model.specs.Tasks.{is_sink};
 
 use cw_model::Instance;
 use cw_plugin::TaskSpec;
@@ -33,15 +32,5 @@ fn copy_of_task(alloc: Global, task: &Option<TaskSpec>) -> Result<Option<TaskSpe
     match task {
         Some(task) => Ok(Some(task.copy(alloc)?)),
         None => Ok(None),
-    }
-}
-
-/// Whether an instance is a task of a sink.
-pub(crate) fn is_sink(instance: &Instance) -> bool
-    ensures { result ≡ is_sink instance.now }
-{
-    match &instance.task {
-        Some(task) => !task.class.is_source(),
-        None => false,
     }
 }

@@ -5,7 +5,7 @@ ghost use Rattle.cw_model.specs.Tasks.{batch_limit_of};
 ghost use Rattle.cw_model.specs.declared.instance.InstancePhase.TheVariants as phase;
 ghost use Rattle.cw_serve.specs.Working.{IsWork};
 
-use crate::copying::{copy_of, is_sink};
+use crate::copying::copy_of;
 use crate::naming::Begun;
 use crate::shared::{Shared, Stop};
 use cw_disk::Disk;
@@ -13,6 +13,7 @@ use cw_model::{Instance, InstancePhase};
 use cw_sinktask::{Delivery, gather};
 use cw_sourcetask::batches_take_some;
 use cw_tasks::waits;
+use cw_ticks::is_sink;
 use cw_world::World;
 use std::alloc::{AllocError, Global};
 use std::sync::Wait;

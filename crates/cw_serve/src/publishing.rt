@@ -1,61 +1,16 @@
 //! What each worker has read of the config log is put on the board.
-ghost use Rattle.std.specs.Prelude.{◌≡◌, ◌<◌, ◌≤◌, ◌-◌, map, take, drop, true, false, length, IfOk, option_map};
-ghost use Rattle.std.specs.Prelude.{slice_index};
-ghost use Rattle.std.specs.List.{AllByRecursion};
-ghost use Rattle.cw_keys.specs.Configs.{is_record};
-ghost use Rattle.cw_model.specs.Bodies.{config_applied};
+ghost use Rattle.std.specs.Prelude.{◌≡◌, ◌<◌, ◌≤◌, ◌-◌, take, drop, true, false, length, slice_index};
 ghost use Rattle.cw_model.specs.Lookups.{row_of};
-ghost use Rattle.cw_topics.specs.Configs.{IsWritableRecord};
 ghost use Rattle.cw_serve.specs.Boarding.{IsBoarded};
 
 use crate::naming::Begun;
 use cw_board::BoardWriter;
-use cw_bytes::Applied;
 use cw_config::ConfigRecord;
 use cw_disk::Disk;
-use cw_keys::write_config;
-use cw_types::Listed;
+use cw_topics::applied_of;
 use cw_world::World;
-use std::alloc::{AllocError, Global};
+use std::alloc::Global;
 use std::sync::Wait;
-
-// A text as it is kept.
-fn listed(text: Option<Vec<u8>>) -> Option<Listed<u8>>
-    ensures { result ≡ option_map (λ text. text.items) text }
-{
-    match text {
-        Some(text) => Some(Listed::new(text)),
-        None => None,
-    }
-}
-
-// A record of the config log as it is written.
-fn applied_one(alloc: Global, one: &ConfigRecord) -> Result<Applied, AllocError>
-    requires { is_record one.now.key one.now.value ≡ true }
-    ensures { IfOk result (λ applied. applied ≡ config_applied one.now) }
-{
-    match write_config(alloc, &one.key, one.value.as_ref()) {
-        Ok((key, value)) => Ok(Applied {
-            offset: one.offset,
-            stamp: one.stamp,
-            key: Listed::new(key),
-            value: listed(value),
-        }),
-        Err(_) => Err(AllocError),
-    }
-}
-
-// The same of records.
-fn applied_of(alloc: Global, records: &[ConfigRecord]) -> Result<Vec<Applied>, AllocError>
-    requires { AllByRecursion IsWritableRecord records.now }
-    ensures { IfOk result (λ applied. applied.items ≡ map config_applied records.now) }
-{
-    let mut applied = Vec::new(alloc);
-    for one in records {
-        applied.push(applied_one(alloc, one)?)?;
-    }
-    Ok(applied)
-}
 
 /// How many records of the config log a worker has read.
 pub fn read_of<D: Disk>(world: &World<D>, w: u32) -> u64

@@ -13,9 +13,10 @@ ghost use Rattle.cw_world.specs.World.{Acts};
 use cw_disk::Disk;
 use cw_feed::CutAnswer;
 use cw_model::{Cut, Did, Instance, Trace, WorldFault};
+use cw_rows::part_at;
 use cw_tasks::refuse;
 use cw_ticks::{parts_of, position_at};
-use cw_types::{PartKey, Span};
+use cw_types::Span;
 use cw_world::World;
 use std::alloc::AllocError;
 
@@ -98,12 +99,4 @@ fn span_to(instance: &Instance, turn: u32, to: u64) -> Result<Span, AllocError>
         from: position_at(instance, turn as usize),
         to,
     })
-}
-
-// The part of a turn.
-fn part_at(instance: &Instance, turn: u32) -> &PartKey
-    requires { turn < length (parts_of instance.now) }
-    ensures { result.now ≡ part_at turn instance.now }
-{
-    &parts_of(instance)[turn as usize]
 }

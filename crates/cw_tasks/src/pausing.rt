@@ -6,8 +6,7 @@ ghost use Rattle.cw_model.specs.Steps.{is_paused_target, waits};
 
 use cw_keys::Target;
 use cw_model::InstancePhase;
-use cw_rows::Cluster;
-use cw_types::{Item, Name};
+use cw_rows::{Cluster, connector_of};
 
 /// Whether a task waits, since its worker has read that its connector is paused. One with something in hand goes on.
 pub fn waits(cluster: &Cluster, i: u64) -> bool
@@ -48,15 +47,5 @@ fn is_paused_target(target: Target) -> bool
     match target {
         Target::Paused => true,
         Target::Started | Target::Stopped => false,
-    }
-}
-
-// The connector of an item.
-fn connector_of(item: &Item) -> &Name
-    ensures { result.now ≡ connector_of item.now }
-{
-    match item {
-        Item::Connector(name) => name,
-        Item::Task(id) => &id.connector,
     }
 }

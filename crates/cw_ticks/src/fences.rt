@@ -6,11 +6,10 @@ ghost use Rattle.cw_model.specs.EventsLeading.{fencing_of};
 ghost use Rattle.cw_model.specs.Ready.{connector_in, is_stable};
 ghost use Rattle.cw_model.specs.TickRules.{fence_applies};
 
-use crate::configured::configured_items;
 use crate::phases::is_stable;
 use cw_config::ConfigState;
 use cw_model::{Fencing, Row};
-use cw_rows::Cluster;
+use cw_rows::{Cluster, configured_items};
 use cw_types::{Item, Name};
 use std::alloc::AllocError;
 

@@ -25,7 +25,7 @@ mod turns;
 
 pub use fences::{fence_applies, has_producer_left};
 pub use marks::mark_applies;
-pub use polls::{cut_at, parts_of, position_at, source_turn};
+pub use polls::{cut_at, is_sink, parts_of, position_at, source_turn};
 pub use proposals::{Proposal, are_deferred, proposal_of, propose_applies, ready};
 pub use reading::read_applies;
 pub use records::{commit_records, task_records};

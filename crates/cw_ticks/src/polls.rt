@@ -3,10 +3,11 @@
 ghost use Rattle.std.specs.Prelude.{◌≡◌, ◌<◌, ◌≤◌, ◌-◌, length};
 ghost use Rattle.std.specs.List.{find, range_with_len};
 ghost use Rattle.cw_model.specs.Polls.{turn_behind, cut_at, is_something, source_turn};
-ghost use Rattle.cw_model.specs.Tasks.{parts_of, position_at, count_of, batch_limit_of};
+ghost use Rattle.cw_model.specs.Tasks.{parts_of, position_at, batch_limit_of, is_sink};
 
 use cw_feed::{CutAnswer, Feeds};
 use cw_model::Instance;
+use cw_rows::count_of;
 use cw_types::PartKey;
 
 /// The turn that a source's poll takes, where a part has something: its next line or record, or a line that is too
@@ -85,22 +86,22 @@ pub fn parts_of(instance: &Instance) -> &[PartKey]
     }
 }
 
+/// Whether an instance is a task of a sink.
+pub fn is_sink(instance: &Instance) -> bool
+    ensures { result ≡ is_sink instance.now }
+{
+    match &instance.task {
+        Some(task) => !task.class.is_source(),
+        None => false,
+    }
+}
+
 /// A task's position in the part of a turn.
 pub fn position_at(instance: &Instance, turn: usize) -> u64
     ensures { result ≡ position_at turn instance.now }
 {
     match instance.positions.as_slice().get(turn) {
         Some(position) => *position,
-        None => 0,
-    }
-}
-
-// How many records each of its sequences has.
-fn count_of(instance: &Instance) -> u64
-    ensures { result ≡ count_of instance.now }
-{
-    match &instance.task {
-        Some(task) => task.count,
         None => 0,
     }
 }

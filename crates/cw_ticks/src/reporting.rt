@@ -11,8 +11,8 @@ ghost use Rattle.cw_ticks.specs.Running.{to_report};
 use cw_config::ConfigState;
 use cw_keys::{State, Target};
 use cw_model::{Instance, InstancePhase};
-use cw_rows::Cluster;
-use cw_types::{Item, Name};
+use cw_rows::{Cluster, connector_of};
+use cw_types::Item;
 
 /// The number of the first of a worker's instances whose state isn't the one that was reported of it last.
 pub fn report_applies(cluster: &Cluster, w: u32) -> Option<u64>
@@ -79,16 +79,6 @@ fn has_failed(phase: InstancePhase) -> bool
         | InstancePhase::Offered
         | InstancePhase::Delivered
         | InstancePhase::Ended => false,
-    }
-}
-
-// The connector of an item.
-fn connector_of(item: &Item) -> &Name
-    ensures { result.now ≡ connector_of item.now }
-{
-    match item {
-        Item::Connector(name) => name,
-        Item::Task(id) => &id.connector,
     }
 }
 

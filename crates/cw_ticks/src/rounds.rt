@@ -9,11 +9,11 @@ ghost use Rattle.cw_model.specs.Lookups.{row_of};
 ghost use Rattle.cw_model.specs.TickRules.{has_not_joined, same_items, is_settled, is_to_plan};
 ghost use Rattle.cw_model.specs.TickRules.{join_applies, close_applies, plan_applies, sync_applies, lead_applies};
 
-use crate::configured::{configured_items, is_same};
+use crate::configured::is_same;
 use crate::phases::{is_closed, is_open, is_planned, is_stable_in, leads};
 use cw_assign::Delay;
 use cw_group::Group;
-use cw_rows::Cluster;
+use cw_rows::{Cluster, configured_items};
 use cw_types::Item;
 use std::alloc::AllocError;
 

@@ -151,8 +151,8 @@ fn copy_value(value: &Option<ConfigValue>) -> Result<Option<ConfigValue>, AllocE
     }
 }
 
-// The fields of records.
-fn applied_of(alloc: Global, records: &[ConfigRecord]) -> Result<Vec<Applied>, AllocError>
+/// The fields of records, as they are written. Its only error is want of memory.
+pub fn applied_of(alloc: Global, records: &[ConfigRecord]) -> Result<Vec<Applied>, AllocError>
     requires { AllByRecursion IsWritableRecord records.now }
     ensures { IfOk result (λ applied. applied.items ≡ map config_applied records.now) }
 {

@@ -25,7 +25,7 @@ mod status_log;
 mod status_topic;
 mod topics;
 
-pub use config_frame::{ConfigFrame, frame_from};
+pub use config_frame::{ConfigFrame, applied_of, frame_from};
 pub use configs::copies_from;
 pub use data_frame::DataFrame;
 pub use entries::tid_of;

@@ -1,5 +1,5 @@
 //! What follows from the frames of the logs as these are opened.
-ghost use Rattle.std.specs.Prelude.{◌≡◌, ◌<◌, ◌+◌, ◌^◌, ◌++◌, ◌∷◌, [], IfOk, OnOk, length, map, option_map};
+ghost use Rattle.std.specs.Prelude.{◌≡◌, ◌<◌, ◌+◌, ◌^◌, ◌++◌, ◌∷◌, [], IfOk, OnOk, length, map};
 ghost use Rattle.std.specs.List.{filter_map, cons_option};
 ghost use Rattle.cw_bytes.specs.Frames.{joined};
 ghost use Rattle.cw_config.specs.Compaction.{config_in, configs_in};
@@ -15,9 +15,8 @@ ghost use Rattle.cw_types.specs.declared.ids.PartKey.{PartKey};
 ghost use Rattle.cw_topics.specs.Entries.{with_entry};
 
 use cw_bytes::Applied;
-use cw_config::ConfigRecord;
+use cw_config::{ConfigRecord, record_in};
 use cw_data::{Batch, DataEntry, DataState};
-use cw_keys::{KeyFault, read_config};
 use cw_txn::{Coordinator, Entry, SetOffset, TxnFault};
 use cw_types::{Epoch, Listed, Span, Tag, Tid};
 use std::alloc::{AllocError, Global};
@@ -194,7 +193,7 @@ fn read_frame(
     ensures { OnOk result (records.new.items ≡ records.old.items ++ filter_map config_in frame.now) }
 {
     for applied in frame {
-        let found = read_record(alloc, applied)?;
+        let found = record_in(alloc, applied)?;
         push_some(records, found)?;
     }
     Ok(())
@@ -210,31 +209,5 @@ fn push_some(records: &mut Vec<ConfigRecord>, found: Option<ConfigRecord>) -> Re
             Ok(())
         }
         None => Ok(()),
-    }
-}
-
-// The record of the config log that a key and a value are, if they are one.
-fn read_record(alloc: Global, applied: &Applied) -> Result<Option<ConfigRecord>, AllocError>
-    ensures { IfOk result (λ found. found ≡ config_in applied.now) }
-{
-    match read_config(alloc, applied.key.as_slice(), text_of(applied)) {
-        Ok((key, value)) => Ok(Some(ConfigRecord {
-            offset: applied.offset,
-            stamp: applied.stamp,
-            key,
-            value,
-        })),
-        Err(KeyFault::Memory) => Err(AllocError),
-        Err(KeyFault::BadKey) => Ok(None),
-        Err(KeyFault::BadValue) => Ok(None),
-    }
-}
-
-fn text_of(applied: &Applied) -> Option<&[u8]>
-    ensures { option_map (λ text. text.now) result ≡ applied.now.value }
-{
-    match &applied.value {
-        Some(text) => Some(text.as_slice()),
-        None => None,
     }
 }

@@ -11,9 +11,9 @@ ghost use Rattle.cw_turns.specs.Going.{Start, GoesOn};
 
 use cw_disk::Disk;
 use cw_model::{Instance, InstancePhase};
-use cw_rows::Cluster;
+use cw_rows::{Cluster, part_at};
 use cw_sinktask::Delivery;
-use cw_ticks::{parts_of, position_at};
+use cw_ticks::{is_sink, parts_of, position_at};
 use cw_types::PartKey;
 use cw_world::World;
 
@@ -66,14 +66,6 @@ fn is_due(cluster: &Cluster, own: &Instance, delivery: &Delivery) -> bool
     position == delivery.from && position < delivery.to && delivery.to <= stable
 }
 
-// The part of a turn.
-fn part_at(instance: &Instance, turn: u32) -> &PartKey
-    requires { turn < length (parts_of instance.now) }
-    ensures { result.now ≡ part_at turn instance.now }
-{
-    &parts_of(instance)[turn as usize]
-}
-
 // Up to where a sink's part is stable; 0 where it is no topic.
 fn stable_of(cluster: &Cluster, part: &PartKey) -> u64
     ensures { result ≤ stable (topic_in part.now) cluster.now.state.batches }
@@ -81,15 +73,5 @@ fn stable_of(cluster: &Cluster, part: &PartKey) -> u64
     match part {
         PartKey::Sink { topic, .. } => cluster.stable(topic),
         PartKey::Raw(_) | PartKey::File { .. } | PartKey::Seq { .. } => 0,
-    }
-}
-
-// Whether an instance is a task of a sink.
-fn is_sink(instance: &Instance) -> bool
-    ensures { result ≡ is_sink instance.now }
-{
-    match &instance.task {
-        Some(task) => !task.class.is_source(),
-        None => false,
     }
 }

@@ -9,7 +9,7 @@ use crate::line::Line;
 use crate::refusal::{Made, Refusal, only_where};
 use crate::stage::Trial;
 use cw_model::{Cut, Instance, InstancePhase};
-use cw_ticks::{parts_of, position_at};
+use cw_ticks::{is_sink, parts_of, position_at};
 use cw_types::PartKey;
 
 // The instance that the next word names, where it is in a phase.
@@ -100,15 +100,6 @@ fn may_deliver(world: &Trial, i: u64, turn: u32, to: u64) -> bool
     match &parts_of(own)[place] {
         PartKey::Sink { topic, .. } => to <= world.cluster().stable(topic),
         _ => false,
-    }
-}
-
-fn is_sink(own: &Instance) -> bool
-    ensures { result ≡ is_sink own.now }
-{
-    match &own.task {
-        Some(task) => !task.class.is_source(),
-        None => false,
     }
 }
 

@@ -18,7 +18,7 @@ returns-then-may_fence c =
     let may : (is_some (row_of w s).lead && is_stable (row_of w s).phase) ≡ true =
     ap (λ (r : Row). is_some r.lead && is_stable r.phase) (sym c.row_of.ensures) ∙ sym c.may_fence.ensures ∙ c.if-may_fence.true in
     let found : find (λ name. is_pending name c.config_of-read.result.now) (filter_map connector_in c.as_slice.result.now) ≡ fence_applies w s =
-    ap (λ (l : List Item). find (λ name. is_pending name c.config_of-read.result.now) (filter_map connector_in l)) (c.as_slice.ensures.value ∙ c.in_ok-items.ensures) ∙
+    ap (λ (l : List Item). find (λ name. is_pending name c.config_of-read.result.now) (filter_map connector_in l)) (c.as_slice.ensures.value ∙ c.in_ok-items.ensures.items) ∙
     ap (λ (r : List ConfigRecord). find (λ name. is_pending name r) (filter_map connector_in (configured_items r))) c.config_of-read.ensures ∙
     sym (first-filtered (λ name. is_pending name (seen w s)) (filter_map connector_in (configured_items (seen w s)))) ∙
     ap (λ (b : Bool). if b then slice_get (pending_connectors w s) 0 else None) (sym may) in
