@@ -139,42 +139,6 @@ fn tell_often<J: BoardNaming + Send + Sync, R: Threads + Wait + Abort + Sync>(
     Ok(())
 }
 
-// A reader that is told of the first put sees it.
-fn tell_once<J: BoardNaming, R: Wait + Abort>(
-    rt: &R,
-    alloc: Global,
-    history: History,
-) -> Result<(), Fail>
-    requires history { history.seen.book ≡ J.book }
-    requires workers { J.workers ≡ 1 }
-{
-    let (mut writer, mut boards) = open_board::<J, &R>(alloc, rt, history, 1, 1)?;
-    let board = boards.pop().ok_or("a reader")?;
-    let first = put_first(alloc, &mut writer, board);
-    assert_eq!(rt; first, Some((1, 1)));
-    Ok(())
-}
-
-// Puts the first record, and tells the reader: how much is published then, and how much the reader sees.
-fn put_first<J: BoardNaming, R: Wait + Drop>(
-    alloc: Global,
-    writer: &mut BoardWriter<J, R>,
-    board: Board<J>,
-) -> Option<(u64, u64)>
-    requires worker { 0 < J.workers }
-    requires fresh { configs_of 0 writer.old.given ≡ [] }
-{
-    let mut state = ConfigState::new(alloc);
-    let front = put_at(writer, &mut state, alloc, 0)?;
-    let (_board, seen) = look_once(board, writer.note(), PUTS);
-    Some((front, seen))
-}
-
-#[test]
-fn a_reader_that_is_told_sees_it(rt: HostRuntime) -> Result<(), Fail> {
-    tell_once::<Brand, HostRuntime>(&rt, rt.alloc(), History::new())
-}
-
 #[test]
 fn a_thousand_times_between_two_threads(rt: HostRuntime) -> Result<(), Fail> {
     tell_often::<Brand, HostRuntime>(&rt, rt.alloc(), History::new())
