@@ -46,20 +46,7 @@ fn main(rt: HostRuntime) -> ExitCode {
 
 // How the call ended; what it gave back is let go.
 fn status_of<D: Drop, U: Drop, N: Drop>(outcome: Outcome<D, U, N>) -> Status {
-    let Outcome {
-        status,
-        disks,
-        outlet,
-        net,
-        journal,
-        receipts,
-    } = outcome;
-    drop(disks);
-    drop(outlet);
-    drop(net);
-    drop(journal);
-    drop(receipts);
-    status
+    outcome.status
 }
 
 // A file that has nothing to read, and takes nothing.

@@ -24,6 +24,7 @@ use Rattle.cw_audit.specs.Report.{audit_text, log_lines}
 use Rattle.cw_audit.specs.Audited.{HasReport, HasReportOf, IsOpen, IsRefused, IsStoppedOn, Writes, end_of}
 use Rattle.cw_audit.specs.declared.end.AuditEnd.{AuditEnd}
 use Rattle.cw_audit.specs.declared.end.AuditEnd.TheVariants.{Done, WriteFault, StoreFault, Damaged, Memory}
+use Rattle.cw_open.proofs.LeavingLemmas.{holds-lists}
 
 -- ---- the report
 
@@ -63,15 +64,6 @@ pub stopped-on : {D : Type 0} (G : Ghosts D) (disks : Disks D) (judged : JudgedD
 stopped-on G disks judged sound files = record { stands = judged-stand judged sound; files = files }
 
 -- ---- the harms
-
-pub files-stand : (files : DiskFiles) (stored : Stored) → FilesHold files stored → StandForLists files stored
-files-stand files stored hold = record {
-  config = hold.config.stands;
-  offsets = hold.offsets.stands;
-  status = hold.status.stands;
-  txn = hold.txn;
-  batches = hold.batches;
-}
 
 -- disks that were opened have no harm
 pub open-refuses : (end : AuditEnd) → IsOpen end → ⊥ → IsRefused end
@@ -158,4 +150,4 @@ module _ {D : Type 0} (G : Ghosts D) (disks : Disks D) (feeds : Files) (group : 
     (one : (other : Stored) (t : Cluster) → StandForLists files other → StandFor other t → IsSameBesidesSides s t) where
   pub one-report : (P : List ℕ → Type 0) → HasReportOf G disks feeds group P → HasReport feeds group s P
   one-report P has = same-report feeds group s has.state P
-      (one (stored_of has.state) has.state (files-stand files (stored_of has.state) (has.stopped.files files tell)) has.stopped.stands) has.report
+      (one (stored_of has.state) has.state (holds-lists files (stored_of has.state) (has.stopped.files files tell)) has.stopped.stands) has.report

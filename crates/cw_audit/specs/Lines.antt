@@ -2,7 +2,7 @@
 -- The words are this project's own.
 use Rattle.std.specs.Prelude.{ℕ, Bool, true, false, List, ◌++◌, Option, Some, None, codes, decimal}
 use Rattle.cw_types.specs.declared.logs.LogName.{LogName}
-use Rattle.cw_model.specs.TickText.{log_text}
+use Rattle.cw_rest.specs.Messages.{log_text}
 
 -- how many frames a log has, and how many bytes its file
 abbrev pub log_line : LogName → (frames bytes : ℕ) → List ℕ

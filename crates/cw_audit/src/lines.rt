@@ -1,7 +1,7 @@
 //! The lines of a report.
 ghost use Rattle.std.specs.Prelude.{◌≡◌, ◌++◌, IfOk, OnOk, decimal};
-ghost use Rattle.cw_model.specs.TickText.{log_text};
 ghost use Rattle.cw_audit.specs.Lines as line;
+ghost use Rattle.cw_rest.specs.Messages.{log_text};
 
 use cw_types::LogName;
 use std::alloc::{AllocError, Global};

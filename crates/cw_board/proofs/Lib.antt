@@ -5,3 +5,4 @@ pub mod Configs
 pub mod Shelved
 pub mod Written
 pub mod Sent
+pub mod Removals

@@ -15,10 +15,12 @@ use cw_bytes::Applied;
 use std::alloc::AllocError;
 use std::marker::{Model, PhantomData};
 use std::sync::Wait;
+use thiserror::Error;
 
 /// Want of memory. So many of the records that were handed in are taken over nevertheless: the next put that succeeds
 /// publishes them, too, before its own.
-#[derive(Clone, Copy, Debug, PartialEq, Eq, Drop)]
+#[derive(Clone, Copy, Debug, PartialEq, Eq, Drop, Error)]
+#[error("out of memory, with {given} records taken over")]
 pub struct Unpublished {
     pub given: u64,
 }

@@ -34,9 +34,9 @@ Fails (Short at) meant = meant ≡ Err (Short at)
 Fails (BadKind byte) meant = meant ≡ Err (BadKind byte)
 Fails (BadName at) meant = meant ≡ Err (BadName at)
 
-abbrev pub Gives : {X Y : Type 0} → (X → Y) → Result X FieldFault → Result Y FieldFault → Type 0
-Gives view (Ok x) meant = meant ≡ Ok (view x)
-Gives view (Err fault) meant = Fails fault meant
+abbrev pub Reads : {X Y : Type 0} → (X → Y) → Result X FieldFault → Result Y FieldFault → Type 0
+Reads view (Ok x) meant = meant ≡ Ok (view x)
+Reads view (Err fault) meant = Fails fault meant
 
 -- the first byte
 abbrev pub first_of : ℕ → List ℕ → Read ℕ

@@ -1,7 +1,7 @@
 //! Reading one field behind the other.
 ghost use Rattle.std.specs.Prelude.{◌≡◌, IfOk, IfErr, OnErr};
 ghost use Rattle.cw_bytes.specs.Input.{unread};
-ghost use Rattle.cw_bytes.specs.Reading.{Fails, Gives, PutsSpan, cut_at, text_at, name_at, task_at, raw_id_at, tid_at};
+ghost use Rattle.cw_bytes.specs.Reading.{Fails, Reads, PutsSpan, cut_at, text_at, name_at, task_at, raw_id_at, tid_at};
 ghost use Rattle.cw_bytes.specs.Reading.{tag_at, flag_at, mark_at, raw_part_at, file_at, seq_at, sink_at, part_at};
 ghost use Rattle.cw_bytes.specs.Reading.{span_at, some_text_at, value_at, record_at, many_at, records_at};
 
@@ -15,7 +15,7 @@ use std::alloc::Global;
 
 #[inline]
 fn cut<'a>(place: usize, count: usize, from: Input<'a>) -> Result<(&'a [u8], Input<'a>), FieldFault>
-    ensures { Gives (λ x. (x.0.now, unread x.1)) result (cut_at place count (unread from.entry)) }
+    ensures { Reads (λ x. (x.0.now, unread x.1)) result (cut_at place count (unread from.entry)) }
 {
     if from.rest.len() < count {
         return Err(FieldFault::Short(place));
@@ -27,7 +27,7 @@ fn cut<'a>(place: usize, count: usize, from: Input<'a>) -> Result<(&'a [u8], Inp
 #[tactic(auto, unfolding(crate::specs::Reading::text_at))]
 #[inline]
 pub fn text_of(from: Input<'_>) -> Result<(&[u8], Input<'_>), FieldFault>
-    ensures { Gives (λ x. (x.0.now, unread x.1)) result (text_at (unread from.entry)) }
+    ensures { Reads (λ x. (x.0.now, unread x.1)) result (text_at (unread from.entry)) }
 {
     let (count, rest) = u32_of(from)?;
     cut(from.place, count as usize, rest)
@@ -36,7 +36,7 @@ pub fn text_of(from: Input<'_>) -> Result<(&[u8], Input<'_>), FieldFault>
 #[tactic(auto, unfolding(crate::specs::Reading::name_at))]
 #[inline]
 fn name_of(alloc: Global, from: Input<'_>) -> Result<(Name, Input<'_>), FieldFault>
-    ensures { Gives (λ x. (x.0, unread x.1)) result (name_at (unread from.entry)) }
+    ensures { Reads (λ x. (x.0, unread x.1)) result (name_at (unread from.entry)) }
 {
     let (text, rest) = text_of(from)?;
     match Name::from_bytes(alloc, text)? {
@@ -49,7 +49,7 @@ fn name_of(alloc: Global, from: Input<'_>) -> Result<(Name, Input<'_>), FieldFau
 #[tactic(auto, unfolding(crate::specs::Reading::task_at))]
 #[inline(never)]
 fn task_of(alloc: Global, from: Input<'_>) -> Result<(Tid, Input<'_>), FieldFault>
-    ensures { Gives (λ x. (x.0, unread x.1)) result (task_at (unread from.entry)) }
+    ensures { Reads (λ x. (x.0, unread x.1)) result (task_at (unread from.entry)) }
 {
     let (connector, rest) = name_of(alloc, from)?;
     let (index, rest) = u32_of(rest)?;
@@ -59,7 +59,7 @@ fn task_of(alloc: Global, from: Input<'_>) -> Result<(Tid, Input<'_>), FieldFaul
 #[tactic(auto, unfolding(crate::specs::Reading::raw_id_at))]
 #[inline(always)]
 fn raw_id_of(from: Input<'_>) -> Result<(Tid, Input<'_>), FieldFault>
-    ensures { Gives (λ x. (x.0, unread x.1)) result (raw_id_at (unread from.entry)) }
+    ensures { Reads (λ x. (x.0, unread x.1)) result (raw_id_at (unread from.entry)) }
 {
     let (number, rest) = u32_of(from)?;
     Ok((Tid::Raw(number), rest))
@@ -69,7 +69,7 @@ fn raw_id_of(from: Input<'_>) -> Result<(Tid, Input<'_>), FieldFault>
 #[tactic(auto, unfolding(crate::specs::Reading::tid_at))]
 #[inline(always)]
 pub fn tid_of(alloc: Global, from: Input<'_>) -> Result<(Tid, Input<'_>), FieldFault>
-    ensures { Gives (λ x. (x.0, unread x.1)) result (tid_at (unread from.entry)) }
+    ensures { Reads (λ x. (x.0, unread x.1)) result (tid_at (unread from.entry)) }
 {
     let (kind, rest) = u8_of(from)?;
     match kind {
@@ -84,7 +84,7 @@ pub fn tid_of(alloc: Global, from: Input<'_>) -> Result<(Tid, Input<'_>), FieldF
 #[tactic(auto, unfolding(crate::specs::Reading::tag_at))]
 #[inline]
 pub fn tag_of(alloc: Global, from: Input<'_>) -> Result<(Tag, Input<'_>), FieldFault>
-    ensures { Gives (λ x. (x.0, unread x.1)) result (tag_at (unread from.entry)) }
+    ensures { Reads (λ x. (x.0, unread x.1)) result (tag_at (unread from.entry)) }
 {
     let (tid, rest) = tid_of(alloc, from)?;
     let (epoch, rest) = u64_of(rest)?;
@@ -99,7 +99,7 @@ pub fn tag_of(alloc: Global, from: Input<'_>) -> Result<(Tag, Input<'_>), FieldF
 
 #[tactic(auto, unfolding(crate::specs::Reading::flag_at))]
 fn flag_of(from: Input<'_>) -> Result<(bool, Input<'_>), FieldFault>
-    ensures { Gives (λ x. (x.0, unread x.1)) result (flag_at (unread from.entry)) }
+    ensures { Reads (λ x. (x.0, unread x.1)) result (flag_at (unread from.entry)) }
 {
     let (kind, rest) = u8_of(from)?;
     match kind {
@@ -112,7 +112,7 @@ fn flag_of(from: Input<'_>) -> Result<(bool, Input<'_>), FieldFault>
 /// A marker: a transaction, and whether it committed.
 #[tactic(auto, unfolding(crate::specs::Reading::mark_at))]
 pub fn mark_of(alloc: Global, from: Input<'_>) -> Result<(Mark, Input<'_>), FieldFault>
-    ensures { Gives (λ x. (x.0, unread x.1)) result (mark_at (unread from.entry)) }
+    ensures { Reads (λ x. (x.0, unread x.1)) result (mark_at (unread from.entry)) }
 {
     let (tag, rest) = tag_of(alloc, from)?;
     let (committed, rest) = flag_of(rest)?;
@@ -122,7 +122,7 @@ pub fn mark_of(alloc: Global, from: Input<'_>) -> Result<(Mark, Input<'_>), Fiel
 #[tactic(auto, unfolding(crate::specs::Reading::raw_part_at))]
 #[inline(always)]
 fn raw_part_of(from: Input<'_>) -> Result<(PartKey, Input<'_>), FieldFault>
-    ensures { Gives (λ x. (x.0, unread x.1)) result (raw_part_at (unread from.entry)) }
+    ensures { Reads (λ x. (x.0, unread x.1)) result (raw_part_at (unread from.entry)) }
 {
     let (number, rest) = u32_of(from)?;
     Ok((PartKey::Raw(number), rest))
@@ -131,7 +131,7 @@ fn raw_part_of(from: Input<'_>) -> Result<(PartKey, Input<'_>), FieldFault>
 #[tactic(auto, unfolding(crate::specs::Reading::file_at))]
 #[inline(never)]
 fn file_of(alloc: Global, from: Input<'_>) -> Result<(PartKey, Input<'_>), FieldFault>
-    ensures { Gives (λ x. (x.0, unread x.1)) result (file_at (unread from.entry)) }
+    ensures { Reads (λ x. (x.0, unread x.1)) result (file_at (unread from.entry)) }
 {
     let (connector, rest) = name_of(alloc, from)?;
     let (feed, rest) = name_of(alloc, rest)?;
@@ -141,7 +141,7 @@ fn file_of(alloc: Global, from: Input<'_>) -> Result<(PartKey, Input<'_>), Field
 #[tactic(auto, unfolding(crate::specs::Reading::seq_at))]
 #[inline(never)]
 fn seq_of(alloc: Global, from: Input<'_>) -> Result<(PartKey, Input<'_>), FieldFault>
-    ensures { Gives (λ x. (x.0, unread x.1)) result (seq_at (unread from.entry)) }
+    ensures { Reads (λ x. (x.0, unread x.1)) result (seq_at (unread from.entry)) }
 {
     let (connector, rest) = name_of(alloc, from)?;
     let (index, rest) = u32_of(rest)?;
@@ -151,7 +151,7 @@ fn seq_of(alloc: Global, from: Input<'_>) -> Result<(PartKey, Input<'_>), FieldF
 #[tactic(auto, unfolding(crate::specs::Reading::sink_at))]
 #[inline(never)]
 fn sink_of(alloc: Global, from: Input<'_>) -> Result<(PartKey, Input<'_>), FieldFault>
-    ensures { Gives (λ x. (x.0, unread x.1)) result (sink_at (unread from.entry)) }
+    ensures { Reads (λ x. (x.0, unread x.1)) result (sink_at (unread from.entry)) }
 {
     let (connector, rest) = name_of(alloc, from)?;
     let (topic, rest) = name_of(alloc, rest)?;
@@ -162,7 +162,7 @@ fn sink_of(alloc: Global, from: Input<'_>) -> Result<(PartKey, Input<'_>), Field
 #[tactic(auto, unfolding(crate::specs::Reading::part_at))]
 #[inline(always)]
 pub fn part_of(alloc: Global, from: Input<'_>) -> Result<(PartKey, Input<'_>), FieldFault>
-    ensures { Gives (λ x. (x.0, unread x.1)) result (part_at (unread from.entry)) }
+    ensures { Reads (λ x. (x.0, unread x.1)) result (part_at (unread from.entry)) }
 {
     let (kind, rest) = u8_of(from)?;
     match kind {
@@ -178,7 +178,7 @@ pub fn part_of(alloc: Global, from: Input<'_>) -> Result<(PartKey, Input<'_>), F
 #[tactic(auto, unfolding(crate::specs::Reading::span_at))]
 #[inline(always)]
 pub fn span_of(alloc: Global, from: Input<'_>) -> Result<(Span, Input<'_>), FieldFault>
-    ensures { Gives (λ x. (x.0, unread x.1)) result (span_at (unread from.entry)) }
+    ensures { Reads (λ x. (x.0, unread x.1)) result (span_at (unread from.entry)) }
 {
     let (part, rest) = part_of(alloc, from)?;
     let (from, rest) = u64_of(rest)?;
@@ -224,7 +224,7 @@ fn some_text_of(
     alloc: Global,
     from: Input<'_>,
 ) -> Result<(Option<Listed<u8>>, Input<'_>), FieldFault>
-    ensures { Gives (λ x. (x.0, unread x.1)) result (some_text_at (unread from.entry)) }
+    ensures { Reads (λ x. (x.0, unread x.1)) result (some_text_at (unread from.entry)) }
 {
     let (text, rest) = text_of(from)?;
     let bytes = text.to_vec(alloc)?;
@@ -233,7 +233,7 @@ fn some_text_of(
 
 #[tactic(auto, unfolding(crate::specs::Reading::value_at))]
 fn value_of(alloc: Global, from: Input<'_>) -> Result<(Option<Listed<u8>>, Input<'_>), FieldFault>
-    ensures { Gives (λ x. (x.0, unread x.1)) result (value_at (unread from.entry)) }
+    ensures { Reads (λ x. (x.0, unread x.1)) result (value_at (unread from.entry)) }
 {
     let (kind, rest) = u8_of(from)?;
     match kind {
@@ -245,7 +245,7 @@ fn value_of(alloc: Global, from: Input<'_>) -> Result<(Option<Listed<u8>>, Input
 
 #[tactic(auto, unfolding(crate::specs::Reading::record_at))]
 fn record_of(alloc: Global, from: Input<'_>) -> Result<(Applied, Input<'_>), FieldFault>
-    ensures { Gives (λ x. (x.0, unread x.1)) result (record_at (unread from.entry)) }
+    ensures { Reads (λ x. (x.0, unread x.1)) result (record_at (unread from.entry)) }
 {
     let (offset, rest) = u64_of(from)?;
     let (stamp, rest) = u64_of(rest)?;
@@ -266,7 +266,7 @@ fn many_records_of(
     count: u32,
     from: Input<'_>,
 ) -> Result<(Vec<Applied>, Input<'_>), FieldFault>
-    ensures { Gives (λ x. (x.0.items, unread x.1)) result (many_at record_at count (unread from.entry)) }
+    ensures { Reads (λ x. (x.0.items, unread x.1)) result (many_at record_at count (unread from.entry)) }
 {
     let mut records = Vec::new(alloc);
     let mut rest = from;
@@ -281,7 +281,7 @@ fn many_records_of(
 /// Records behind their number.
 #[tactic(auto, unfolding(crate::specs::Reading::records_at))]
 pub fn records_of(alloc: Global, from: Input<'_>) -> Result<(Vec<Applied>, Input<'_>), FieldFault>
-    ensures { Gives (λ x. (x.0.items, unread x.1)) result (records_at (unread from.entry)) }
+    ensures { Reads (λ x. (x.0.items, unread x.1)) result (records_at (unread from.entry)) }
 {
     let (count, rest) = u32_of(from)?;
     if count == 0 {

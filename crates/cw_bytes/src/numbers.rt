@@ -3,7 +3,7 @@ ghost use Rattle.std.specs.Prelude.{◌≡◌, ◌+◌, ◌<◌, ◌≤◌, ◌^
 ghost use Rattle.std.specs.Int.{w32, w64};
 ghost use Rattle.cw_bytes.specs.Input.{unread};
 ghost use Rattle.cw_bytes.specs.Unread.{past};
-ghost use Rattle.cw_bytes.specs.Reading.{Gives, byte_at, number_at};
+ghost use Rattle.cw_bytes.specs.Reading.{Reads, byte_at, number_at};
 
 use crate::fault::FieldFault;
 use crate::input::Input;
@@ -23,7 +23,7 @@ pub fn past(from: Input<'_>, count: usize) -> Input<'_>
 /// One byte.
 #[inline]
 pub fn u8_of(from: Input<'_>) -> Result<(u8, Input<'_>), FieldFault>
-    ensures { Gives (λ x. (x.0, unread x.1)) result (byte_at (unread from.entry)) }
+    ensures { Reads (λ x. (x.0, unread x.1)) result (byte_at (unread from.entry)) }
 {
     match from.rest {
         [] => Err(FieldFault::Short(from.place)),
@@ -40,7 +40,7 @@ pub fn u8_of(from: Input<'_>) -> Result<(u8, Input<'_>), FieldFault>
 /// A number of four bytes, the greatest first.
 #[inline]
 pub fn u32_of(from: Input<'_>) -> Result<(u32, Input<'_>), FieldFault>
-    ensures { Gives (λ x. (x.0, unread x.1)) result (number_at w32 (unread from.entry)) }
+    ensures { Reads (λ x. (x.0, unread x.1)) result (number_at w32 (unread from.entry)) }
 {
     if from.rest.len() < 4 {
         return Err(FieldFault::Short(from.place));
@@ -53,7 +53,7 @@ pub fn u32_of(from: Input<'_>) -> Result<(u32, Input<'_>), FieldFault>
 /// A number of eight bytes, the greatest first.
 #[inline]
 pub fn u64_of(from: Input<'_>) -> Result<(u64, Input<'_>), FieldFault>
-    ensures { Gives (λ x. (x.0, unread x.1)) result (number_at w64 (unread from.entry)) }
+    ensures { Reads (λ x. (x.0, unread x.1)) result (number_at w64 (unread from.entry)) }
 {
     if from.rest.len() < 8 {
         return Err(FieldFault::Short(from.place));

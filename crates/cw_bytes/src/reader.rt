@@ -4,7 +4,7 @@ ghost use Rattle.std.specs.Int.{w32, w64};
 ghost use Rattle.cw_bytes.specs.Unread.{Unread, Takes, AreBytes};
 ghost use Rattle.cw_bytes.specs.Spelling.{word, long, text, tid_bytes, tag_bytes, mark_bytes, part_bytes, span_bytes};
 ghost use Rattle.cw_bytes.specs.Spelling.{records_bytes, IsText, IsTid, IsTag, IsMark, IsPart, IsSpan, AreRecords};
-ghost use Rattle.cw_bytes.specs.Reading.{Fails, Gives, PutsSpan, ReadsSpelled, byte_at, number_at, text_at, tid_at};
+ghost use Rattle.cw_bytes.specs.Reading.{Fails, Reads, PutsSpan, ReadsSpelled, byte_at, number_at, text_at, tid_at};
 ghost use Rattle.cw_bytes.specs.Reading.{tag_at, mark_at, part_at, span_at, records_at};
 
 use crate::applied::Applied;
@@ -67,7 +67,7 @@ impl<'a> Reader<'a> {
     /// Reads a byte.
     #[inline]
     pub fn take_u8(&mut self) -> Result<u8, FieldFault>
-        ensures value { Gives (λ byte. (byte, self.new)) result (byte_at self.old) }
+        ensures value { Reads (λ byte. (byte, self.new)) result (byte_at self.old) }
         ensures as_before { OnErr result (self.new ≡ self.old) }
     {
         let (byte, rest) = u8_of(self.input)?;
@@ -78,7 +78,7 @@ impl<'a> Reader<'a> {
     /// Reads four bytes as a number.
     #[inline]
     pub fn take_u32(&mut self) -> Result<u32, FieldFault>
-        ensures value { Gives (λ number. (number, self.new)) result (number_at w32 self.old) }
+        ensures value { Reads (λ number. (number, self.new)) result (number_at w32 self.old) }
         ensures as_before { OnErr result (self.new ≡ self.old) }
         ensures spelled { IfOk result (λ number. Takes (word number) self.old self.new) }
     {
@@ -90,7 +90,7 @@ impl<'a> Reader<'a> {
     /// Reads eight bytes as a number.
     #[inline]
     pub fn take_u64(&mut self) -> Result<u64, FieldFault>
-        ensures value { Gives (λ number. (number, self.new)) result (number_at w64 self.old) }
+        ensures value { Reads (λ number. (number, self.new)) result (number_at w64 self.old) }
         ensures as_before { OnErr result (self.new ≡ self.old) }
         ensures spelled { IfOk result (λ number. Takes (long number) self.old self.new) }
     {
@@ -101,7 +101,7 @@ impl<'a> Reader<'a> {
 
     /// Reads a text.
     pub fn take_text(&mut self) -> Result<&'a [u8], FieldFault>
-        ensures value { Gives (λ text. (text.now, self.new)) result (text_at self.old) }
+        ensures value { Reads (λ text. (text.now, self.new)) result (text_at self.old) }
         ensures as_before { OnErr result (self.new ≡ self.old) }
         ensures spelled { IfOk result (λ bytes. Takes (text bytes.now) self.old self.new × IsText bytes.now) }
     {
@@ -114,7 +114,7 @@ impl<'a> Reader<'a> {
 /// Reads a producer's id.
 #[inline]
 pub fn read_tid(alloc: Global, from: &mut Reader<'_>) -> Result<Tid, FieldFault>
-    ensures value { Gives (λ tid. (tid, from.new)) result (tid_at from.old) }
+    ensures value { Reads (λ tid. (tid, from.new)) result (tid_at from.old) }
     ensures as_before { OnErr result (from.new ≡ from.old) }
     ensures spelled { IfOk result (λ tid. Takes (tid_bytes tid) from.old from.new × IsTid tid) }
 {
@@ -126,7 +126,7 @@ pub fn read_tid(alloc: Global, from: &mut Reader<'_>) -> Result<Tid, FieldFault>
 /// Reads a transaction.
 #[inline]
 pub fn read_tag(alloc: Global, from: &mut Reader<'_>) -> Result<Tag, FieldFault>
-    ensures value { Gives (λ tag. (tag, from.new)) result (tag_at from.old) }
+    ensures value { Reads (λ tag. (tag, from.new)) result (tag_at from.old) }
     ensures as_before { OnErr result (from.new ≡ from.old) }
     ensures spelled { IfOk result (λ tag. Takes (tag_bytes tag) from.old from.new × IsTag tag) }
 {
@@ -137,7 +137,7 @@ pub fn read_tag(alloc: Global, from: &mut Reader<'_>) -> Result<Tag, FieldFault>
 
 /// Reads a mark.
 pub fn read_mark(alloc: Global, from: &mut Reader<'_>) -> Result<Mark, FieldFault>
-    ensures value { Gives (λ mark. (mark, from.new)) result (mark_at from.old) }
+    ensures value { Reads (λ mark. (mark, from.new)) result (mark_at from.old) }
     ensures as_before { OnErr result (from.new ≡ from.old) }
     ensures spelled { IfOk result (λ mark. Takes (mark_bytes mark) from.old from.new × IsMark mark) }
 {
@@ -149,7 +149,7 @@ pub fn read_mark(alloc: Global, from: &mut Reader<'_>) -> Result<Mark, FieldFaul
 /// Reads a part.
 #[inline]
 pub fn read_part(alloc: Global, from: &mut Reader<'_>) -> Result<PartKey, FieldFault>
-    ensures value { Gives (λ part. (part, from.new)) result (part_at from.old) }
+    ensures value { Reads (λ part. (part, from.new)) result (part_at from.old) }
     ensures as_before { OnErr result (from.new ≡ from.old) }
     ensures spelled { IfOk result (λ part. Takes (part_bytes part) from.old from.new × IsPart part) }
 {
@@ -161,7 +161,7 @@ pub fn read_part(alloc: Global, from: &mut Reader<'_>) -> Result<PartKey, FieldF
 /// Reads a span.
 #[inline]
 pub fn read_span(alloc: Global, from: &mut Reader<'_>) -> Result<Span, FieldFault>
-    ensures value { Gives (λ span. (span, from.new)) result (span_at from.old) }
+    ensures value { Reads (λ span. (span, from.new)) result (span_at from.old) }
     ensures as_before { OnErr result (from.new ≡ from.old) }
     ensures spelled { IfOk result (λ span. Takes (span_bytes span) from.old from.new × IsSpan span) }
 {
@@ -187,7 +187,7 @@ pub fn read_span_onto(
 
 /// Reads a list of records.
 pub fn read_records(alloc: Global, from: &mut Reader<'_>) -> Result<Vec<Applied>, FieldFault>
-    ensures value { Gives (λ records. (records.items, from.new)) result (records_at from.old) }
+    ensures value { Reads (λ records. (records.items, from.new)) result (records_at from.old) }
     ensures as_before { OnErr result (from.new ≡ from.old) }
     ensures spelled { IfOk result (λ records.
         Takes (records_bytes records.items) from.old from.new × AreRecords records.items) }

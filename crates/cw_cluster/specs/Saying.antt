@@ -1,12 +1,7 @@
 -- What is said of a directive: a text is put behind others, or why not. This project's own.
-use Rattle.std.specs.Prelude.{◌≡◌, ℕ, List, [], ◌∷◌, ◌++◌, Option, Some, None, Result, Ok, Err, MatchResult}
+use Rattle.std.specs.Prelude.{◌≡◌, ℕ, List, [], ◌∷◌, ◌++◌, Result, Ok, Err, MatchResult}
 use Rattle.cw_lines.specs.declared.end.DriveEnd.{DriveEnd}
 use Rattle.cw_lines.specs.declared.end.DriveEnd.TheVariants.{Memory}
-
--- how what is meant ends the script, where it does
-abbrev pub end_in : Result (List ℕ) DriveEnd → Option DriveEnd
-end_in (Ok text) = None
-end_in (Err end) = Some end
 
 -- its text, where it doesn't
 abbrev pub text_in : Result (List ℕ) DriveEnd → List ℕ

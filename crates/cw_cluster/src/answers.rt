@@ -2,7 +2,8 @@
 ghost use Rattle.std.specs.Prelude.{ℕ, ◌≡◌, ◌++◌, [], Ok, Err, OnOk, MatchResult};
 ghost use Rattle.cw_run.specs.Answers.{refusal, text_of};
 ghost use Rattle.cw_cluster.specs.Outcomes.{outcome_words};
-ghost use Rattle.cw_cluster.specs.Saying.{Says, Writes, end_in, text_in};
+ghost use Rattle.cw_cluster.specs.Saying.{Says, Writes, text_in};
+ghost use Rattle.std.specs.Result.{result_err};
 
 use crate::outcome::Outcome;
 use crate::wording::write_outcome;
@@ -107,7 +108,7 @@ fn written(done: io::Result<()>) -> Result<(), DriveEnd>
 
 // How a refusal ends the script; None where it is said.
 fn end_of(fault: &WorldFault) -> Option<DriveEnd>
-    ensures { (n : ℕ) → result ≡ end_in (refusal n fault.now) }
+    ensures { (n : ℕ) → result ≡ result_err (refusal n fault.now) }
 {
     match fault {
         WorldFault::Full { log, length, frame } => Some(DriveEnd::Full {

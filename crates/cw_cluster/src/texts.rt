@@ -57,7 +57,7 @@ pub(crate) struct LogText {
 
 impl fmt::Display for LogText {
     ghost use Rattle.std.specs.Prelude.{Some};
-    ghost use Rattle.cw_model.specs.TickText.{log_text};
+    ghost use Rattle.cw_rest.specs.Messages.{log_text};
 
     ghost output = { λ text. Some (log_text text.log) };
 

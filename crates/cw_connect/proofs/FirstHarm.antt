@@ -1,16 +1,10 @@
 -- Files have one first harm at most.
-use Rattle.std.proofs.Common.{◌≡◌, inl, inr, ℕ, Some, IsSome, suc, Bool, true, false, List, [], ◌∷◌, ◌++◌, length, refl, sym, ap, subst, ◌∙◌, arith, append_assoc}
-use Rattle.std.specs.List.{AllZip}
+use Rattle.std.proofs.Common.{◌≡◌, inl, inr, ℕ, suc, Bool, true, false, List, [], ◌∷◌, ◌++◌, length, refl, sym, ap, subst, ◌∙◌, arith, append_assoc}
 use Rattle.std.proofs.lemmas.List.{append-nil}
 use Rattle.cw_types.specs.declared.logs.DiskName.{DiskName}
 use Rattle.cw_types.specs.declared.logs.LogName.{LogName}
 use Rattle.cw_types.specs.declared.logs.LogName.TheVariants.{Config, Offsets, Status, Txn, Batches}
 use Rattle.cw_bytes.specs.Frames.{EachFrom}
-use Rattle.cw_bytes.specs.Reading.{Read, body_at, records_at}
-use Rattle.cw_bytes.specs.Unread.{Unread}
-use Rattle.cw_txn.specs.BodyReading.{entries_at}
-use Rattle.cw_offset.specs.BodyReading.{entry_at as stored_at}
-use Rattle.cw_data.specs.BodyReading.{entry_at as data_at}
 use Rattle.cw_log.specs.Log.{kind_of}
 use Rattle.cw_log.specs.declared.fault.Harm.{Harm}
 use Rattle.cw_log.specs.declared.fault.Harm.TheVariants.{Magic, Version, Kind, Header, SameSide, Length, Content, Unsafe}
@@ -19,13 +13,14 @@ use Rattle.cw_pair.specs.Pair.{IsGreatest, IsRight}
 use Rattle.cw_pair.specs.State.{side_of}
 use Rattle.cw_pair.proofs.Harms.{one_pair_harm}
 use Rattle.cw_pair.proofs.Pairs.{behind_low, not_both, pair_one, pair_sound}
-use Rattle.cw_model.specs.StandsFor.{Stored, Frames, AreRead, Judgement, IsFirstLacking, IsFirstOf, IsFirstNotAllowed, IsFirstUnsafe, IsFirstHarm, AreSound, IsReadable, judged, reading_of, allowing_of, safety_of}
+use Rattle.cw_model.specs.StandsFor.{Stored, Frames, AreRead, Judgement, IsFirstLacking, IsFirstOf, IsFirstNotAllowed, IsFirstUnsafe, IsFirstHarm, judged, reading_of, allowing_of, safety_of}
 use Rattle.cw_model.proofs.Stored.{AreRead-one}
 use Rattle.cw_laws.proofs.Framed.{each_from-rest}
-use Rattle.cw_open.specs.Contents.{list_in}
 use Rattle.cw_open.specs.FoundFrames.{StandsAt}
 use Rattle.cw_open.specs.Judged.{HasChosenSide, IsChosenDisk, HasFirstHarm, HasFrameHarm}
-use Rattle.cw_open.specs.Reopened.{DiskFiles, FilesHold, FirstHarmFrom, HasFileHarm, HasPairHarm, HasTopicHarm, StandForSome, all_logs, disk_of}
+use Rattle.cw_open.specs.Reopened.{DiskFiles, FilesHold, FirstHarmFrom, HasFileHarm, HasPairHarm, HasTopicHarm, StandForSome, all_logs}
+use Rattle.cw_world.specs.Logs.{disk_of, list_in}
+use Rattle.cw_laws.proofs.NoHarm.{reads-all, allows-all}
 
 -- ---- the first that lacks something
 
@@ -77,27 +72,6 @@ safety_exact frames Offsets = exact_judged _ frames.offsets
 safety_exact frames Status = exact_judged _ frames.status
 safety_exact frames Txn = exact_judged _ frames.txn
 safety_exact frames Batches = exact_judged _ frames.batches
-
--- what is read lacks no reading
-readable : {A : Type 0} (at : Unread → Read A) (before bodies : List (List ℕ)) (frames : List A) → AllZip (λ body frame. body_at at body ≡ Some frame) bodies frames → EachFrom (IsReadable at) before bodies
-readable at before [] frames read = tt
-readable at before (body ∷ bodies) [] read = absurd read
-readable at before (body ∷ bodies) (frame ∷ frames) read =
-    (subst (λ o. IsSome o) (sym read.0) refl, readable at (before ++ body ∷ []) bodies frames read.1)
-
-reads-all : (stored : Stored) (frames : Frames) (log : LogName) (at : ℕ) → AreRead stored frames → (reading_of stored log).lacks at → ⊥
-reads-all stored frames Config at read = (reading_exact stored Config).not_both at (readable records_at [] stored.config.frames frames.config read.config)
-reads-all stored frames Offsets at read = (reading_exact stored Offsets).not_both at (readable stored_at [] stored.offsets.frames frames.offsets read.offsets)
-reads-all stored frames Status at read = (reading_exact stored Status).not_both at (readable records_at [] stored.status.frames frames.status read.status)
-reads-all stored frames Txn at read = (reading_exact stored Txn).not_both at (readable entries_at [] stored.txn frames.txn read.txn)
-reads-all stored frames Batches at read = (reading_exact stored Batches).not_both at (readable data_at [] stored.batches frames.batches read.batches)
-
-allows-all : (frames : Frames) (log : LogName) (at : ℕ) → AreSound (allowing_of frames) → (allowing_of frames log).lacks at → ⊥
-allows-all frames Config at all = (allowing_exact frames Config).not_both at all.0
-allows-all frames Offsets at all = (allowing_exact frames Offsets).not_both at all.1.0
-allows-all frames Status at all = (allowing_exact frames Status).not_both at all.1.1.0
-allows-all frames Txn at all = (allowing_exact frames Txn).not_both at all.1.1.1.0
-allows-all frames Batches at all = (allowing_exact frames Batches).not_both at all.1.1.1.1.0
 
 module _ (judge : LogName → Judgement) (exact : (log : LogName) → IsExact (judge log)) where
   first_of_one : (log log' : LogName) (at at' : ℕ) → IsFirstOf judge log at → IsFirstOf judge log' at' → (log ≡ log') × (at ≡ at')

@@ -1,4 +1,3 @@
-pub mod Written
 pub mod Opened
 pub mod Refused
 pub mod Commands

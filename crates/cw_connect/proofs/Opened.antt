@@ -1,5 +1,5 @@
 -- What follows of a cluster that was opened.
-use Rattle.std.proofs.Common.{◌≡◌, ◌&&◌, inl, inr, ℕ, Bool, true, false, List, Option, Some, ap, ◌∙◌}
+use Rattle.std.proofs.Common.{◌≡◌, inl, inr, ℕ, Bool, true, false, List, Option, Some}
 use Rattle.cw_disk.specs.declared.device.Disk.{Ghosts}
 use Rattle.cw_disk.specs.declared.disks.Disks.{Disks}
 use Rattle.cw_log.specs.Log.{IsUnmade, OpensAs, kind_of, new_log}
@@ -7,37 +7,23 @@ use Rattle.cw_pair.specs.Pair.{IsRight}
 use Rattle.cw_pair.specs.State.{OpensPairAs, Sides, sides_of}
 use Rattle.cw_pair.proofs.Pairs.{not_both}
 use Rattle.cw_types.specs.declared.logs.LogName.TheVariants.{Config, Offsets, Status, Txn, Batches}
-use Rattle.cw_open.specs.Leaving.{StandForLists}
 use Rattle.cw_open.specs.OpenedFrom.{AreFrom}
-use Rattle.cw_open.specs.Reopened.{DiskFiles, FilesHold, TellAll}
-use Rattle.cw_model.specs.StandsFor.{Stored}
+use Rattle.cw_open.specs.Reopened.{DiskFiles, TellAll}
 use Rattle.cw_world.specs.Ending.{disks_of}
 use Rattle.cw_world.specs.Logs.{LogsState}
 use Rattle.cw_cluster.specs.Breaking.{tell_all}
 use Rattle.cw_connect.specs.Making.{AreMade, AreUnmade}
-
-and_both : (a b : Bool) → a ≡ true → b ≡ true → (a && b) ≡ true
-and_both a b is_a is_b = ap (λ (v : Bool). v && b) is_a ∙ is_b
+use Rattle.std.proofs.lemmas.Bool.{and_from}
 
 -- logs that were opened from disks that tell their files tell their lists
 pub tells_all : {D : Type 0} (G : Ghosts D) (disks : Disks D) (logs : LogsState D) (files : DiskFiles) → AreFrom G disks logs → TellAll G disks files → tell_all G logs ≡ true
 tells_all G disks logs files from tell =
-    and_both _ _ (and_both _ _ (and_both _ _ (and_both _ _
+    and_from _ _ (and_from _ _ (and_from _ _ (and_from _ _
     (from.config.tells files.config_a files.config_b tell.0.0 tell.0.1)
     (from.offsets.tells files.offsets_a files.offsets_b tell.1.0.0 tell.1.0.1))
     (from.status.tells files.status_a files.status_b tell.1.1.0.0 tell.1.1.0.1))
     (from.txn.tells files.txn tell.1.1.1.0))
     (from.batches.tells files.batches tell.1.1.1.1.0)
-
--- files that hold just what is stored stand for its lists
-pub stand_for_lists : (files : DiskFiles) (stored : Stored) → FilesHold files stored → StandForLists files stored
-stand_for_lists files stored hold = record {
-  config = hold.config.stands;
-  offsets = hold.offsets.stands;
-  status = hold.status.stands;
-  txn = hold.txn;
-  batches = hold.batches;
-}
 
 -- ---- logs that were made
 

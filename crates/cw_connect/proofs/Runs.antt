@@ -31,7 +31,7 @@ use Rattle.cw_connect.specs.Statuses.{status_of_end}
 use Rattle.cw_connect.specs.declared.status.Status.{Status}
 use Rattle.cw_connect.specs.declared.status.Status.TheVariants.{Done, Usage, BadScript, TooLong, ReadFault, WriteFault, StoreFault, Damaged, ShelfFault, OutletFault, NetFault, Full, Memory, Disagree}
 use Rattle.cw_connect.proofs.FirstHarm.{first_harm_is_one}
-use Rattle.cw_connect.proofs.Opened.{stand_for_lists}
+use Rattle.cw_open.proofs.LeavingLemmas.{holds-lists}
 
 -- all was done, or an object failed, or memory was wanting
 abbrev pub IsDoneUnlessFailed : Status → Type 0
@@ -135,7 +135,7 @@ module _ {D I O H U : Type 0} (G : Ghosts D) (i : Input I) (o : Output O) (S : s
       (files : DiskFiles) → TellAll G old files → (at : DiskName) (place : ℕ) (harm : Harm) → HasFirstHarm files at place harm → IsRefusedFor at place harm status
   refused only harmless files tell at place harm has = ⊎_elim
       (λ unopened. refused_by G old new at place harm status unopened.left (λ disk gate what is. first_harm_is_one files disk at gate place what harm (only disk gate what is files tell) has))
-      (λ driven. absurd (harmless driven.setting driven.ran.cluster files at place harm driven.from.facts (stand_for_lists files (stored_of driven.ran.cluster) (driven.from.files files tell)) has)) ran
+      (λ driven. absurd (harmless driven.setting driven.ran.cluster files at place harm driven.from.facts (holds-lists files (stored_of driven.ran.cluster) (driven.from.files files tell)) has)) ran
 
   -- files without one are opened
   pub completed : ((disk : DiskName) (at : ℕ) (harm : Harm) → status ≡ Damaged disk at harm → ⊥) →

@@ -37,8 +37,8 @@ use Rattle.cw_connect.specs.Statuses.{status_of_serve, status_of_shelf}
 use Rattle.cw_connect.specs.declared.status.Status.{Status}
 use Rattle.cw_connect.specs.declared.status.Status.TheVariants.{Done, Usage, BadScript, TooLong, ReadFault, WriteFault, StoreFault, Damaged, ShelfFault, OutletFault, NetFault, Full, Memory, Disagree}
 use Rattle.cw_connect.proofs.FirstHarm.{first_harm_is_one}
-use Rattle.cw_connect.proofs.Opened.{stand_for_lists}
 use Rattle.cw_connect.proofs.Runs.{refused_by}
+use Rattle.cw_open.proofs.LeavingLemmas.{holds-lists}
 
 -- ---- which end has which status
 
@@ -228,7 +228,7 @@ module _ {D H U N L : Type 0} (G : Ghosts D) (S : shelf.Ghosts H) (n : listener.
       (files : DiskFiles) → TellAll G old files → (at : DiskName) (place : ℕ) (harm : Harm) → HasFirstHarm files at place harm → IsRefusedFor at place harm status
   serve_refused only harmless files tell at place harm has = ⊎_elim
       (λ unopened. refused_by G old new at place harm status unopened.left (λ disk gate what is. first_harm_is_one files disk at gate place what harm (only disk gate what is files tell) has))
-      (λ served. absurd (harmless served.setting served.opened files at place harm served.from.facts (stand_for_lists files (stored_of served.opened) (served.from.files files tell)) has)) ran
+      (λ served. absurd (harmless served.setting served.opened files at place harm served.from.facts (holds-lists files (stored_of served.opened) (served.from.files files tell)) has)) ran
 
   -- files without one are served
   pub serve_completed : ((disk : DiskName) (at : ℕ) (harm : Harm) → status ≡ Damaged disk at harm → ⊥) → (status ≡ ShelfFault → ⊥) → (status ≡ OutletFault → ⊥) → (status ≡ NetFault → ⊥) →

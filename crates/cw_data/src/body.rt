@@ -1,7 +1,7 @@
 //! Bodies of the data log.
 ghost use Rattle.std.specs.Prelude.{◌≡◌, ◌≢◌, ◌++◌, Some, None, Err, IfOk, OnOk, MatchResult};
 ghost use Rattle.cw_bytes.specs.declared.body.BodyFault.TheVariants.{NotBody, Memory};
-ghost use Rattle.cw_bytes.specs.Reading.{Gives, name_at, text_at, many_at, body_at};
+ghost use Rattle.cw_bytes.specs.Reading.{Reads, name_at, text_at, many_at, body_at};
 ghost use Rattle.cw_types.specs.Name.{IsName};
 ghost use Rattle.cw_bytes.specs.Spelling.{text, tag_bytes, flag_bytes, span_bytes};
 ghost use Rattle.cw_data.specs.declared.entry.DataEntry.{DataEntry};
@@ -18,7 +18,7 @@ use std::alloc::{AllocError, Global};
 
 #[tactic(auto, unfolding(cw_bytes::specs::Reading::name_at))]
 fn read_name(alloc: Global, from: &mut Reader<'_>) -> Result<Name, FieldFault>
-    ensures { Gives (λ name. (name, from.new)) result (name_at from.old) }
+    ensures { Reads (λ name. (name, from.new)) result (name_at from.old) }
 {
     let place = from.place();
     let text = from.take_text()?;
@@ -32,7 +32,7 @@ fn read_name(alloc: Global, from: &mut Reader<'_>) -> Result<Name, FieldFault>
 }
 
 fn read_value(alloc: Global, from: &mut Reader<'_>) -> Result<Listed<u8>, FieldFault>
-    ensures { Gives (λ value. (value, from.new)) result (text_at from.old) }
+    ensures { Reads (λ value. (value, from.new)) result (text_at from.old) }
 {
     let text = from.take_text()?;
     Ok(Listed::new(text.to_vec(alloc)?))
@@ -43,7 +43,7 @@ fn read_many_values(
     count: u32,
     from: &mut Reader<'_>,
 ) -> Result<Vec<Listed<u8>>, FieldFault>
-    ensures { Gives (λ values. (values.items, from.new)) result (many_at text_at count from.old) }
+    ensures { Reads (λ values. (values.items, from.new)) result (many_at text_at count from.old) }
 {
     let mut values = Vec::new(alloc);
     for _ in 0..count {
@@ -55,7 +55,7 @@ fn read_many_values(
 
 #[tactic(auto, unfolding(crate::specs::BodyReading::values_at))]
 fn read_values(alloc: Global, from: &mut Reader<'_>) -> Result<Listed<Listed<u8>>, FieldFault>
-    ensures { Gives (λ values. (values, from.new)) result (values_at from.old) }
+    ensures { Reads (λ values. (values, from.new)) result (values_at from.old) }
 {
     let count = from.take_u32()?;
     let values = read_many_values(alloc, count, from)?;
@@ -64,7 +64,7 @@ fn read_values(alloc: Global, from: &mut Reader<'_>) -> Result<Listed<Listed<u8>
 
 #[tactic(auto, unfolding(crate::specs::BodyReading::stored_at, crate::specs::BodyReading::named_at))]
 fn read_stored(alloc: Global, from: &mut Reader<'_>) -> Result<DataEntry, FieldFault>
-    ensures { Gives (λ entry. (entry, from.new)) result (stored_at from.old) }
+    ensures { Reads (λ entry. (entry, from.new)) result (stored_at from.old) }
 {
     let tag = read_tag(alloc, from)?;
     let topic = read_name(alloc, from)?;
@@ -87,7 +87,7 @@ fn read_stored(alloc: Global, from: &mut Reader<'_>) -> Result<DataEntry, FieldF
 
 #[tactic(auto, unfolding(crate::specs::BodyReading::marked_at))]
 fn read_marked(alloc: Global, from: &mut Reader<'_>) -> Result<DataEntry, FieldFault>
-    ensures { Gives (λ entry. (entry, from.new)) result (marked_at from.old) }
+    ensures { Reads (λ entry. (entry, from.new)) result (marked_at from.old) }
 {
     let Mark { tag, committed } = read_mark(alloc, from)?;
     Ok(DataEntry::Mark { tag, committed })
@@ -95,7 +95,7 @@ fn read_marked(alloc: Global, from: &mut Reader<'_>) -> Result<DataEntry, FieldF
 
 #[tactic(auto, unfolding(crate::specs::BodyReading::entry_at))]
 fn read_entry(alloc: Global, from: &mut Reader<'_>) -> Result<DataEntry, FieldFault>
-    ensures { Gives (λ entry. (entry, from.new)) result (entry_at from.old) }
+    ensures { Reads (λ entry. (entry, from.new)) result (entry_at from.old) }
 {
     let kind = from.take_u8()?;
     match kind {

@@ -35,7 +35,7 @@ use Rattle.cw_model.specs.Lookups.{row_of, instance_of, seen, held, no_row}
 use Rattle.cw_model.specs.Updates.{changes_row, changes_instance, in_phase, with_configs, with_offset, with_status, with_entries, with_data, appends_configs, appends_offset, appends_status, appends_entries, appends_data, without_lead, stamped, task_id_of, tid_of, next_config, next_epoch}
 use Rattle.cw_model.specs.Tasks.{tag_of, span_of, cut_of, taking, polling_from}
 use Rattle.cw_model.specs.EventsWorkers.{expire, loses, clock}
-use Rattle.cw_model.specs.EventsGroups.{join, joining, incarnation_in, close_round, store_plan, sync, stable_with, without_due_delay, is_due}
+use Rattle.cw_model.specs.EventsGroups.{join, joining, incarnation_in, close_round, store_plan, sync, stable_with, without_due_delay}
 use Rattle.cw_model.specs.EventsItems.{read_config, start_item, stop_item}
 use Rattle.cw_model.specs.EventsLeading.{claim_lead, append_config, fence_one, append_fence, set_offsets, leading, fencing_on, fencing_of, fenced_tid, fence_record, without_fencing}
 use Rattle.cw_model.specs.EventsSources.{init, with_epoch, verify, fetch, produce, batch_of, put_offsets, offset_record, commit, committed_to, is_stale, is_bad_cut}
@@ -55,6 +55,7 @@ use Rattle.cw_laws.proofs.Runs.{lives-sound}
 use Rattle.cw_laws.proofs.TaskSteps.{step-keeps}
 use Rattle.cw_laws.proofs.Ticks.{tick-keeps}
 use Rattle.cw_laws.proofs.Workers.{sound_at}
+use Rattle.cw_group.specs.Circle.{is_due}
 
 -- ---- states that keep it
 

@@ -19,12 +19,12 @@ use Rattle.cw_rest.specs.Messages.{memory_reply, full_reply, failed_reply, rebal
 use Rattle.cw_rest.specs.Operations.{offset_entries}
 use Rattle.cw_rest.specs.Replies.{reply_to, values_of, offsets_of, entries_of, connector_set}
 use Rattle.cw_rest.specs.Seen.{Seen}
-use Rattle.cw_model.specs.declared.fault.WorldFault.TheVariants.{Fenced, Full, StoreFault, Closed, Dead, Memory}
+use Rattle.cw_model.specs.declared.fault.WorldFault.TheVariants.{Fenced, Full, StoreFault, Closed, Memory}
 use Rattle.cw_model.specs.declared.instance.Instance.{Instance}
 use Rattle.cw_model.specs.declared.journal.JournalEntry.{JournalEntry}
 use Rattle.cw_model.specs.declared.row.Row.{Row}
 use Rattle.cw_model.specs.State.{Setting, Cluster}
-use Rattle.cw_model.specs.Answers.{Answer, answered, refused, unless_closed}
+use Rattle.cw_model.specs.Answers.{Answer, answered, refused}
 use Rattle.cw_model.specs.Bodies.{config_body, config_length, txn_length, frame_of}
 use Rattle.cw_model.specs.EventsItems.{read_config}
 use Rattle.cw_model.specs.EventsLeading.{append_config, set_offsets}
@@ -46,7 +46,7 @@ use Rattle.cw_laws.proofs.Workers.{sound_at}
 use Rattle.cw_edges.specs.Requests.{seen_now, reply_now, would_succeed, behind_write, item_of, restarted, answers}
 use Rattle.cw_desk.specs.Keeping.{KeepsJournal}
 use Rattle.cw_desk.specs.Turns.{entry_in, entry_of}
-use Rattle.cw_herder.proofs.Asking.{by-deed, closed-answers, configs-unled, configs-fail, configs-written, offsets-unled, offsets-fail, offsets-written, sees-all}
+use Rattle.cw_herder.proofs.Asking.{by-deed, closed-answers, configs-unled, configs-fail, configs-written, offsets-unled, offsets-fail, offsets-written, sees-all, at-work}
 use Rattle.cw_desk.proofs.Leaders.{leader-lives, ready-by, unready-by, ready-same, unready-after}
 use Rattle.cw_desk.proofs.Quiet.{keeps-same, keeps-trans, keeps-row, keeps-configs, keeps-entries, keeps-instances, closes-quiet}
 use Rattle.cw_desk.proofs.Unready.{unready-fails, unready-waits, some-values}
@@ -65,19 +65,9 @@ record IsNoWrite (call : Call) (reply : Reply) : Type 0 where
 no-success : (call : Call) (reply : Reply) → is_success reply ≡ false → IsNoWrite call reply
 no-success call reply fails = record { configs = λ _. fails; offsets = λ _. fails }
 
--- an event at a worker that lives
-opened : {A : Type 0} (o : Option (DiskName × ℕ)) (done : Answer A) (s : Cluster) → o ≡ None → unless_closed o done s ≡ done
-opened None done s is = refl
-opened (Some fault) done s is = absurd (cc)
-
 chosen : {A : Type 0} (b : Bool) (done other : A) → b ≡ true → (if b then done else other) ≡ done
 chosen true done other is = refl
 chosen false done other is = absurd (cc)
-
-at-work : {A : Type 0} (w : ℕ) (s : Cluster) (done : Answer A) → s.closed ≡ None → (row_of w s).live ≡ true →
-    unless_closed s.closed (if (row_of w s).live then done else refused (Dead w) s) s ≡ done
-at-work w s done alive live = opened s.closed (if (row_of w s).live then done else refused (Dead w) s) s alive ∙
-    chosen (row_of w s).live done (refused (Dead w) s) live
 
 module _ (setting : Setting) (w : ℕ) (call : Call) where
   -- an entry sees what its call sees now

@@ -9,6 +9,7 @@ ghost use Rattle.cw_desk.specs.Comparing.{AreTheJournal, Disagrees, IsFound, rec
 use crate::same::is_same_entry;
 use cw_model::JournalEntry;
 use cw_world::Receipt;
+use std::fmt;
 
 /// What shows that receipts aren't the journal.
 #[derive(Drop)]
@@ -19,6 +20,12 @@ pub struct Disagree {
     pub kept: Receipt,
     /// What is found in place of its entry; None where the journal has no entry of its number.
     pub found: Option<Member>,
+}
+
+impl fmt::Display for Disagree {
+    fn fmt<W: fmt::Write>(&self, f: &mut fmt::Formatter<W>) -> fmt::Result {
+        write!(f, "receipt {} isn't the journal's", self.at)
+    }
 }
 
 /// What is found in place of a receipt's entry.

@@ -37,7 +37,7 @@ use Rattle.cw_model.specs.Answers.{Answer}
 use Rattle.cw_model.specs.Updates.{changes_row, changes_instance, in_phase, with_configs, with_offset, with_status, with_entries, with_data, appends_configs, appends_offset, appends_status, appends_entries, appends_data, without_lead, stamped, task_id_of, tid_of, next_config, next_epoch}
 use Rattle.cw_model.specs.Tasks.{tag_of, span_of, cut_of, taking, polling_from}
 use Rattle.cw_model.specs.EventsWorkers.{spawn, kill, killed, deaf, hear, expire, loses, clock}
-use Rattle.cw_model.specs.EventsGroups.{join, joining, incarnation_in, close_round, store_plan, sync, stable_with, without_due_delay, is_due}
+use Rattle.cw_model.specs.EventsGroups.{join, joining, incarnation_in, close_round, store_plan, sync, stable_with, without_due_delay}
 use Rattle.cw_model.specs.EventsItems.{read_config, start_item, stop_item, restart}
 use Rattle.cw_model.specs.EventsLeading.{claim_lead, append_config, fence_one, append_fence, set_offsets, leading, fencing_on, fencing_of, fenced_tid, fence_record, without_fencing}
 use Rattle.cw_model.specs.EventsSources.{init, with_epoch, verify, fetch, produce, batch_of, put_offsets, offset_record, commit, committed_to, is_stale, is_bad_cut}
@@ -52,6 +52,7 @@ use Rattle.cw_model.specs.Journal.{journal}
 use Rattle.cw_model.specs.declared.journal.JournalEntry.{JournalEntry}
 use Rattle.cw_model.specs.Runs as step
 use Rattle.cw_model.specs.Runs.{Step, behind, behind_all}
+use Rattle.cw_group.specs.Circle.{is_due}
 
 -- as many workers, or more
 pub record Crowd (s t : Cluster) : Type 0 where

@@ -8,7 +8,8 @@ use Rattle.cw_lines.specs.Lines.{lines_of, is_line}
 use Rattle.cw_lines.specs.Plays.{Played, LinePlayer, passed, with_front, goes_on, behind, play_last, play, run}
 use Rattle.cw_lines.proofs.LineLemmas.{lines_of-line}
 use Rattle.cw_lines.proofs.PlayLemmas.{with_front-twice}
-use Rattle.cw_gen.specs.Lines.{line_text, text_of}
+use Rattle.cw_gen.specs.Lines.{text_of}
+use Rattle.cw_io.specs.Outlet.{line_bytes}
 
 -- each is a line
 abbrev pub AreLines : List (List ℕ) → Type 0
@@ -23,7 +24,7 @@ lines_of-text : (lines : List (List ℕ)) → AreLines lines → lines_of (text_
 unfolding lines_of
 lines_of-text [] all = refl
 lines_of-text (l ∷ ls) all =
-    ap lines_of (flat_map-cons line_text l ls ∙ append_assoc l (10 ∷ []) (text_of ls))
+    ap lines_of (flat_map-cons line_bytes l ls ∙ append_assoc l (10 ∷ []) (text_of ls))
     ∙ lines_of-line l (text_of ls) all.0
     ∙ ap (λ (rest : List (List ℕ)). l ∷ rest) (lines_of-text ls all.1)
 

@@ -29,7 +29,7 @@ passed : {A : Type 0} (b : Bool) (done other : Answer A) → b ≡ false → (if
 passed true done other is = absurd (cc)
 passed false done other is = refl
 
-at-work : {A : Type 0} (w : ℕ) (s : Cluster) (done : Answer A) → s.closed ≡ None → (row_of w s).live ≡ true →
+pub at-work : {A : Type 0} (w : ℕ) (s : Cluster) (done : Answer A) → s.closed ≡ None → (row_of w s).live ≡ true →
     unless_closed s.closed (if (row_of w s).live then done else refused (Dead w) s) s ≡ done
 at-work w s done alive live = opened s.closed (if (row_of w s).live then done else refused (Dead w) s) s alive ∙
     chosen (row_of w s).live done (refused (Dead w) s) live

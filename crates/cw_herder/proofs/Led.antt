@@ -34,7 +34,7 @@ use Rattle.cw_model.specs.EventsLeading.{claim_lead, append_config, fence_one, a
 use Rattle.cw_model.specs.EventsMarking.{mark, marks, no_tag, unmarked_in}
 use Rattle.cw_model.specs.Facts.{AreFacts}
 use Rattle.cw_model.specs.Lookups.{row_of, seen, held}
-use Rattle.cw_model.specs.Proposals.{proposal_of, needs_tasks, are_deferred, commit_records, task_records}
+use Rattle.cw_model.specs.Proposals.{proposal_of, needs_tasks, are_deferred, task_records}
 use Rattle.cw_model.specs.Ready.{ready, connector_in}
 use Rattle.cw_model.specs.TickRules.{Rule, Proposing, tells, unless_lost}
 use Rattle.cw_model.specs.Updates.{next_epoch, changes_row, with_entries, with_offset, with_data, fits_entries, fits_offset, fits_data}
@@ -46,6 +46,7 @@ use Rattle.cw_herder.specs.declared.op.OpDone.TheVariants as done
 use Rattle.cw_herder.specs.Operations as operation
 use Rattle.cw_herder.specs.Operations.{done_as, op_event, MayOp, tick_of, IsAsked}
 use Rattle.cw_herder.proofs.Asked.{lead-there}
+use Rattle.cw_rest.specs.Operations.{commit_values}
 
 -- ---- an operation tells what the tick tells
 
@@ -212,7 +213,7 @@ module _ (w : ℕ) (s : Cluster) where
       abbrev proposed_over : List ConfigRecord → Answer Tick
       proposed_over l = unless_lost (
           if are_deferred l name
-          then tells (append_config leader (commit_records name (length (proposal_of name l))) s) (λ offset _. outcome.Commit name offset)
+          then tells (append_config leader (commit_values name (length (proposal_of name l))) s) (λ offset _. outcome.Commit name offset)
           else tells (append_config leader (task_records name (proposal_of name l)) s) (λ _ _. outcome.Propose name (length (proposal_of name l))))
 
       pub propose-asked : (setting : Setting) (commits : Bool) → AreFacts setting s → IsTurn (turn.Propose leader name commits) w s →
@@ -228,5 +229,5 @@ module _ (w : ℕ) (s : Cluster) where
             may = record { leads = leads; needs = subst (λ (l : List ConfigRecord). needs_tasks l name ≡ true) all needs };
             rule = is.follows ∙ ap rule_of (ap proposed_over all ∙
                 proposed-as (are_deferred s.configs name) (task_records name (proposal_of name s.configs))
-                (commit_records name (length (proposal_of name s.configs))) (length (proposal_of name s.configs)));
+                (commit_values name (length (proposal_of name s.configs))) (length (proposal_of name s.configs)));
           }

@@ -11,7 +11,7 @@ use Rattle.cw_keys.specs.declared.target.Target.TheVariants.{Started, Paused, St
 use Rattle.cw_config.specs.declared.records.ConfigRecord.{ConfigRecord}
 use Rattle.cw_config.specs.View.{is_pending}
 use Rattle.cw_txn.specs.declared.entry.SetOffset.{SetOffset}
-use Rattle.cw_rest.specs.Operations.{config_values, target_values, stop_values, delete_values}
+use Rattle.cw_rest.specs.Operations.{config_values, target_values, stop_values, delete_values, commit_values}
 use Rattle.cw_rest.specs.Seen.{KeyedValues}
 use Rattle.cw_model.specs.declared.fault.WorldFault.{WorldFault}
 use Rattle.cw_model.specs.declared.tick.Tick.{Tick}
@@ -22,7 +22,7 @@ use Rattle.cw_model.specs.EventsLeading.{claim_lead, append_config, fence_one, a
 use Rattle.cw_model.specs.EventsLeading.{MayAppendConfig, MaySetOffsets}
 use Rattle.cw_model.specs.EventsMarking.{mark}
 use Rattle.cw_model.specs.Lookups.{row_of, seen}
-use Rattle.cw_model.specs.Proposals.{proposal_of, needs_tasks, are_deferred, commit_records, task_records}
+use Rattle.cw_model.specs.Proposals.{proposal_of, needs_tasks, are_deferred, task_records}
 use Rattle.cw_model.specs.Tick.{rule_for}
 use Rattle.cw_model.specs.TickRules.{tells, unless_lost, mark_applies}
 use Rattle.cw_herder.specs.declared.op.Op.{Op}
@@ -52,7 +52,7 @@ claims w s = done_as (claim_lead w s) done.Lead
 abbrev pub proposal_records : List ConfigRecord → List ℕ → KeyedValues
 proposal_records records name =
     if are_deferred records name
-    then commit_records name (length (proposal_of name records))
+    then commit_values name (length (proposal_of name records))
     else task_records name (proposal_of name records)
 
 -- what is told of it, by the offset of the first record

@@ -2,11 +2,12 @@
 //! records in the config topic).
 ghost use Rattle.std.specs.Prelude.{◌≡◌, ◌<◌, ◌≤◌, ◌-◌, ◌^◌, length, IfOk, if◌then◌else◌};
 ghost use Rattle.cw_types.specs.Name.{IsName};
-ghost use Rattle.cw_model.specs.Proposals.{proposal_of, are_deferred, commit_records, task_records};
+ghost use Rattle.cw_model.specs.Proposals.{proposal_of, are_deferred, task_records};
 ghost use Rattle.cw_ticks.specs.Proposed.{AreFaultless};
 ghost use Rattle.cw_herder.specs.declared.op.OpDone.TheVariants as done;
 ghost use Rattle.cw_herder.specs.Operations.{proposal_records, told_proposal, proposes, MayPropose};
 ghost use Rattle.cw_world.specs.World.{Acts};
+ghost use Rattle.cw_rest.specs.Operations.{commit_values};
 
 use crate::op::OpDone;
 use cw_config::ConfigState;
@@ -14,7 +15,7 @@ use cw_disk::Disk;
 use cw_json::Props;
 use cw_keys::{ConfigKey, ConfigValue};
 use cw_model::WorldFault;
-use cw_ticks::{are_deferred, commit_records, proposal_of, task_records};
+use cw_ticks::{are_deferred, commit_values, proposal_of, task_records};
 use cw_types::Name;
 use cw_world::World;
 use std::alloc::{AllocError, Global};
@@ -112,10 +113,10 @@ fn records_for(
 ) -> Result<Vec<(ConfigKey, Option<ConfigValue>)>, AllocError>
     requires { length tasks.now ≤ 2 ^ 32 - 1 }
     ensures { IfOk result (λ records. records.items ≡
-        (if commits then commit_records connector.now count else task_records connector.now tasks.now)) }
+        (if commits then commit_values connector.now count else task_records connector.now tasks.now)) }
 {
     if commits {
-        commit_records(alloc, connector, count)
+        commit_values(alloc, connector, count)
     } else {
         task_records(alloc, connector, tasks)
     }

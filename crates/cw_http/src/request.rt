@@ -1,6 +1,7 @@
 //! Requests, and why there is none.
 use cw_types::Listed;
 use std::alloc::AllocError;
+use thiserror::Error;
 
 /// A request that was read whole.
 #[derive(Debug, Drop)]
@@ -16,15 +17,19 @@ pub struct Request {
 }
 
 /// Why no request was read.
-#[derive(Clone, Copy, Debug, PartialEq, Eq, Drop)]
+#[derive(Clone, Copy, Debug, PartialEq, Eq, Drop, Error)]
 pub enum HttpFault {
     /// The peer's bytes ended before a whole request.
+    #[error("the bytes ended before a whole request")]
     Ended,
     /// The link failed. Its count of faults rose.
+    #[error("the link failed")]
     LinkFault,
     /// The bytes are refused with this code: 400, 413, 431, 501 or 505.
+    #[error("the bytes are refused with {0}")]
     Bad(u16),
     /// There was no memory.
+    #[error("out of memory")]
     Memory,
 }
 

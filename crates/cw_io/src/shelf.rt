@@ -6,13 +6,16 @@ ghost use Rattle.cw_io.specs.Shelf.{Files, names_of, bytes_of, AreRising};
 use crate::traits::Failed;
 use cw_types::Name;
 use std::alloc::AllocError;
+use thiserror::Error;
 
 /// Why a shelf gave nothing.
-#[derive(Clone, Copy, Debug, PartialEq, Eq, Drop)]
+#[derive(Clone, Copy, Debug, PartialEq, Eq, Drop, Error)]
 pub enum ShelfFault {
     /// The shelf didn't do what it was asked for. Its count of faults rose.
+    #[error("the shelf failed")]
     Failed,
     /// Want of memory.
+    #[error("out of memory")]
     Memory,
 }
 

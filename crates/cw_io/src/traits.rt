@@ -4,8 +4,11 @@ ghost use Rattle.cw_types.specs.Faults.{Rose};
 ghost use Rattle.cw_io.specs.Told.{with_front, with_back, IsAtEnd};
 ghost use Rattle.cw_io.specs.Written.{IsWrittenInPart};
 
+use thiserror::Error;
+
 /// A call to the outside failed. Its object's count of faults rose.
-#[derive(Clone, Copy, Debug, PartialEq, Eq, Drop)]
+#[derive(Clone, Copy, Debug, PartialEq, Eq, Drop, Error)]
+#[error("a call to the outside failed")]
 pub struct Failed;
 
 /// Where bytes come from, as standard input.

@@ -29,6 +29,7 @@ use Rattle.cw_bytes.specs.Frames.{EachFrom}
 use Rattle.cw_model.specs.ConfigsAllowed.{IsAllowedConfig, AreAllowedConfigs, FitsBehind, FitsCommit}
 use Rattle.cw_model.specs.Fences.{fenced_generation_of}
 use Rattle.cw_laws.proofs.ConfigViews.{properties_at, count_at, target_at, generation_of-push, task_count_of-push, fenced_count_of-push, fenced_generation_of-push, is_pending-push}
+use Rattle.cw_plugin.proofs.ShareLemmas.{bytes_are}
 
 -- ---- lists of which each member fits behind those before it
 
@@ -94,13 +95,10 @@ allowed-prefix n records each =
 unlike-kind : (b : Bool) → b ≡ false → b ≡ true → ⊥
 unlike-kind b is not = cc
 
-pub same-name : (a b : List ℕ) → bytes_eq a b ≡ true → a ≡ b
-same-name a b same = (bytes_eq-Decides a b).0 same
-
 pub same-task : (a b : TaskId) → same_key (key.Task a) (key.Task b) ≡ true → a ≡ b
 same-task a b same =
     let parts = and_parts (bytes_eq a.connector b.connector) (a.index == b.index) same in
-    let connector : a.connector ≡ b.connector = same-name a.connector b.connector parts.0 in
+    let connector : a.connector ≡ b.connector = bytes_are a.connector b.connector parts.0 in
     let index : a.index ≡ b.index = (Decides-eqb a.index b.index).0 parts.1 in
     λ i. record { connector = connector i; index = index i }
 
@@ -109,7 +107,7 @@ commit-kind : (before : List ConfigRecord) (name : List ℕ) (k : ConfigKey) (v 
     FitsCommit before name (unwrap_or (option_and_then count_in v) 0) ×
     (unwrap_or (option_and_then count_in v) 0 < 2 ^ 32)
 commit-kind before name (key.Commit n) (Some (value.Commit count)) kind fits is same =
-    (subst (λ (x : List ℕ). FitsCommit before x count) (same-name n name same) fits, is.0)
+    (subst (λ (x : List ℕ). FitsCommit before x count) (bytes_are n name same) fits, is.0)
 commit-kind before name (key.Commit n) (Some (value.Connector props)) kind fits is same =
     absurd (unlike-kind false refl kind)
 commit-kind before name (key.Commit n) (Some (value.Task props)) kind fits is same =
@@ -134,7 +132,7 @@ fence-kind : (before : List ConfigRecord) (name : List ℕ) (k : ConfigKey) (v :
     (unwrap_or (option_and_then count_in v) 0 < 2 ^ 32)
 fence-kind before name (key.Fencing n) (Some (value.Fencing count)) kind fits is same = (
   subst (λ (x : List ℕ). IsSome (generation_of x before) → count ≡ task_count_of x before)
-      (same-name n name same) fits,
+      (bytes_are n name same) fits,
   is.0,
 )
 fence-kind before name (key.Fencing n) (Some (value.Connector props)) kind fits is same =
@@ -183,7 +181,7 @@ target-kind : (before : List ConfigRecord) (name : List ℕ) (k : ConfigKey) (v 
     is_record k v ≡ true → FitsBehind before k v → same_key k (key.Target name) ≡ true →
     unwrap_or (option_and_then target_in v) Started ≡ Stopped → task_count_of name before ≡ 0
 target-kind before name (key.Target n) (Some (value.Target target)) kind fits same stops =
-    subst (λ (x : List ℕ). task_count_of x before ≡ 0) (same-name n name same) (fits stops)
+    subst (λ (x : List ℕ). task_count_of x before ≡ 0) (bytes_are n name same) (fits stops)
 target-kind before name (key.Target n) (Some (value.Connector props)) kind fits same stops =
     absurd (unlike-kind false refl kind)
 target-kind before name (key.Target n) (Some (value.Task props)) kind fits same stops =
@@ -222,13 +220,13 @@ commit-no_target (key.Fencing n) name is = cc
 pub commit-name : (k : ConfigKey) (name : List ℕ) → IsConfigKey k → same_key k (key.Commit name) ≡ true → IsName name
 commit-name (key.Connector n) name named is = absurd (unlike-kind false refl is)
 commit-name (key.Task id) name named is = absurd (unlike-kind false refl is)
-commit-name (key.Commit n) name named is = subst (λ (x : List ℕ). IsName x) (same-name n name is) named
+commit-name (key.Commit n) name named is = subst (λ (x : List ℕ). IsName x) (bytes_are n name is) named
 commit-name (key.Target n) name named is = absurd (unlike-kind false refl is)
 commit-name (key.Fencing n) name named is = absurd (unlike-kind false refl is)
 
 pub connector-name : (k : ConfigKey) (name : List ℕ) → IsConfigKey k → same_key k (key.Connector name) ≡ true →
     IsName name
-connector-name (key.Connector n) name named is = subst (λ (x : List ℕ). IsName x) (same-name n name is) named
+connector-name (key.Connector n) name named is = subst (λ (x : List ℕ). IsName x) (bytes_are n name is) named
 connector-name (key.Task id) name named is = absurd (unlike-kind false refl is)
 connector-name (key.Commit n) name named is = absurd (unlike-kind false refl is)
 connector-name (key.Target n) name named is = absurd (unlike-kind false refl is)

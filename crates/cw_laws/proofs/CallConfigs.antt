@@ -7,6 +7,7 @@ use Rattle.std.specs.Str.{IsUtf8}
 use Rattle.std.proofs.lemmas.Slice.Eq.{bytes_eq-Decides}
 use Rattle.serde_json.specs.Data.{Data}
 use Rattle.serde_json.specs.Find.{get, as_str}
+use Rattle.std.specs.Result.{result_ok}
 use Rattle.cw_types.specs.Name.{IsName}
 use Rattle.cw_json.specs.Plain.{AreTexts}
 use Rattle.cw_json.specs.Inserting.{below, above, with_value}
@@ -27,7 +28,7 @@ use Rattle.cw_plugin.specs.Checks.{is_name, is_among, first_failing, missing_key
 use Rattle.cw_plugin.specs.Lists.{elements}
 use Rattle.cw_plugin.specs.Tasks.{IsFaultless}
 use Rattle.cw_plugin.proofs.FaultlessLemmas.{faultless_from}
-use Rattle.cw_rest.specs.Bodies.{Asked, asked_with, asked_by, asked_in, config_in, named_config, may_be_named, unless_fault, where_it, has_members}
+use Rattle.cw_rest.specs.Bodies.{Asked, asked_with, asked_by, asked_in, config_in, named_config, may_be_named, where_it, has_members}
 use Rattle.cw_laws.proofs.ReadProps.{props-written}
 use Rattle.cw_laws.proofs.ReadStatuses.{at-key}
 use Rattle.cw_laws.proofs.ReadValues.{IsTextData, reading-text}
@@ -36,14 +37,14 @@ use Rattle.cw_laws.proofs.TaskTexts.{AreWritable}
 
 -- ---- a property more
 
-texts-kept : (test : List ℕ × List ℕ → Bool) (ps : Properties) → AreTexts ps → AreTexts (filter test ps)
+pub texts-kept : (test : List ℕ × List ℕ → Bool) (ps : Properties) → AreTexts ps → AreTexts (filter test ps)
 texts-kept test [] texts = tt
 texts-kept test (p ∷ ps) texts = by (test p) (texts-kept test ps texts.2) where
   by : (b : Bool) → AreTexts (filter test ps) → AreTexts (cond b (p ∷ filter test ps) (filter test ps))
   by true rest = (texts.0, texts.1, rest)
   by false rest = rest
 
-texts-append : (ps qs : Properties) → AreTexts ps → AreTexts qs → AreTexts (ps ++ qs)
+pub texts-append : (ps qs : Properties) → AreTexts ps → AreTexts qs → AreTexts (ps ++ qs)
 texts-append [] qs one other = other
 texts-append (p ∷ ps) qs one other = (one.0, one.1, texts-append ps qs one.2 other)
 
@@ -57,7 +58,7 @@ property-stays k v ps key value stay = (
 -- ---- what a body gives a connector
 
 taken : (r : Result Properties JsonFault) (name : List ℕ) (props : Properties) → ((ps : Properties) → r ≡ Ok ps → AreWritable ps) → IsUtf8 name →
-    option_map (with_value (codes "name") name) (option_and_then (where_it (may_be_named name)) (unless_fault r)) ≡ Some props → AreWritable props
+    option_map (with_value (codes "name") name) (option_and_then (where_it (may_be_named name)) (result_ok r)) ≡ Some props → AreWritable props
 taken (Err fault) name props each named is = absurd (cc)
 taken (Ok ps) name props each named is = by (may_be_named name ps) is where
   by : (b : Bool) → option_map (with_value (codes "name") name) (if b then Some ps else None) ≡ Some props → AreWritable props

@@ -55,11 +55,11 @@ entry-parts (Bump tid) is = tt
 entry-parts (Commit tag generation spans) is = spans-parts spans is.2.1
 entry-parts (Set tid epoch list) is = sets-parts list is.2.1
 
-entries-parts : (entries : List Entry) → AllByRecursion IsEntry entries → AllByRecursion IsPart (flat_map parts_in entries)
+pub entries-parts : (entries : List Entry) → AllByRecursion IsEntry entries → AllByRecursion IsPart (flat_map parts_in entries)
 entries-parts [] each = tt
 entries-parts (entry ∷ entries) each = each-append IsPart (parts_in entry) (flat_map parts_in entries) (entry-parts entry each.0) (entries-parts entries each.1)
 
-frames-entries : (frames : List (List Entry)) → AllByRecursion AreEntries frames → AllByRecursion IsEntry (joined frames)
+pub frames-entries : (frames : List (List Entry)) → AllByRecursion AreEntries frames → AllByRecursion IsEntry (joined frames)
 frames-entries [] each = tt
 frames-entries (frame ∷ frames) each = each-append IsEntry frame (joined frames) each.0.list.1 (frames-entries frames each.1)
 
@@ -92,7 +92,7 @@ record IsOwn (name : List ℕ) (part : PartKey) : Type 0 where
   connector : connector_of part ≡ Some name
   written : IsPart part
 
-is-own : (name : List ℕ) (part : PartKey) → is_part_of name part ≡ true → connector_of part ≡ Some name
+pub is-own : (name : List ℕ) (part : PartKey) → is_part_of name part ≡ true → connector_of part ≡ Some name
 is-own name part is = by (connector_of part) is where
   by : (o : Option (List ℕ)) → option_map_or (λ own. bytes_eq own name) o false ≡ true → o ≡ Some name
   by None is = absurd (cc)
@@ -115,7 +115,7 @@ rising-apart part (other ∷ parts) rise = (
   rising-apart part parts rise.1,
 )
 
-rising-distinct : (parts : List PartKey) → IsStrictlySortedBy partition_cmp parts → IsDistinct same_part parts
+pub rising-distinct : (parts : List PartKey) → IsStrictlySortedBy partition_cmp parts → IsDistinct same_part parts
 unfolding IsStrictlySortedBy IsDistinct
 rising-distinct [] rise = tt
 rising-distinct (part ∷ parts) rise = (rising-apart part parts rise.0, rising-distinct parts rise.1)
@@ -134,7 +134,7 @@ removed-fit : (name : List ℕ) (parts : List PartKey) → AllByRecursion (IsOwn
 removed-fit name [] each = tt
 removed-fit name (part ∷ parts) each = ((each.0.written, tt), removed-fit name parts each.1)
 
-removed-parts : (parts : List PartKey) → map (λ (set : SetOffset). set.part) (removals parts) ≡ parts
+pub removed-parts : (parts : List PartKey) → map (λ (set : SetOffset). set.part) (removals parts) ≡ parts
 removed-parts [] = refl
 removed-parts (part ∷ parts) = ap (λ l. part ∷ l) (removed-parts parts)
 
@@ -262,7 +262,7 @@ none-same : (part : PartKey) (parts : List PartKey) → list_any (same_part part
 none-same part [] none = tt
 none-same part (other ∷ parts) none = let both = or_parts (same_part part other) (list_any (same_part part) parts) none in (both.0, none-same part parts both.1)
 
-once-distinct : (parts : List PartKey) → has_repeat parts ≡ false → IsDistinct same_part parts
+pub once-distinct : (parts : List PartKey) → has_repeat parts ≡ false → IsDistinct same_part parts
 unfolding IsDistinct
 once-distinct [] once = tt
 once-distinct (part ∷ parts) once = by (list_any (same_part part) parts) refl once (once-distinct parts) where

@@ -40,7 +40,7 @@ use Rattle.cw_laws.proofs.Ticks.{some-of}
 
 -- ---- refusals are no successes
 
-unless-done : (b : Bool) (lacking done : Reply) → is_success lacking ≡ false → is_success (unless b lacking done) ≡ true → (b ≡ true) × (is_success done ≡ true)
+pub unless-done : (b : Bool) (lacking done : Reply) → is_success lacking ≡ false → is_success (unless b lacking done) ≡ true → (b ≡ true) × (is_success done ≡ true)
 unless-done true lacking done fails ok = (refl, ok)
 unless-done false lacking done fails ok = absurd (cc)
 
@@ -53,11 +53,11 @@ bad-config (plugin.NoFeed feed) = refl
 bad-config (plugin.BadName key) = refl
 bad-config plugin.Memory = refl
 
-taken-done : (r : Result Class PluginFault) (done : Reply) → is_success (unless_faulty r done) ≡ true → (class : Class) × (r ≡ Ok class)
+pub taken-done : (r : Result Class PluginFault) (done : Reply) → is_success (unless_faulty r done) ≡ true → (class : Class) × (r ≡ Ok class)
 taken-done (Ok class) done ok = (class, refl)
 taken-done (Err fault) done ok = let fails : is_success (bad_config fault) ≡ false = bad-config fault in absurd (cc)
 
-name-passes : (name : List ℕ) → is_name name ≡ true → IsName name
+pub name-passes : (name : List ℕ) → is_name name ≡ true → IsName name
 name-passes name is = by (name_fault name) refl is where
   by : (o : Option NameFault) → name_fault name ≡ o → is_none o ≡ true → IsName name
   by None none is = none

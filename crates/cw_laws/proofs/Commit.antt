@@ -36,11 +36,12 @@ use Rattle.cw_laws.proofs.TaskCommits.{MayCommitBatch, task_commit-stands, task_
 use Rattle.cw_laws.proofs.OlderFences.{standing-older}
 use Rattle.cw_laws.proofs.Written.{list-short}
 use Rattle.cw_laws.proofs.Numbers.{end-fits, end_place-fits}
-use Rattle.cw_laws.proofs.Ends.{each-get, get-map}
+use Rattle.cw_laws.proofs.Ends.{each-get}
 use Rattle.cw_laws.proofs.AtWork.{IsAtWork, at-work, tag_of-is, others-tag, spec-get, spec-source, spec-count}
 use Rattle.cw_laws.proofs.Below.{not_committed}
 use Rattle.cw_laws.proofs.InHand.{part-is, to-is, span-is, turn-within}
 use Rattle.cw_laws.proofs.PartMoves.{part_taken, MovesEnd, moved-keeps}
+use Rattle.cw_data.proofs.Lists.{slice_get-map}
 
 module _ (setting : Setting) (i : ℕ) (s : Cluster) (id : TaskId) (w : IsAtWork s i id) (may : MayCommit i s) (f : AreFacts setting s) where
   abbrev own : Instance
@@ -78,7 +79,7 @@ module _ (setting : Setting) (i : ℕ) (s : Cluster) (id : TaskId) (w : IsAtWork
   begins : its.batch.from ≡ end_or_start its.batch.part s.entries
   begins =
       let at : slice_get own.positions its.cut.turn ≡ option_map (λ part. end_or_start part s.entries) (slice_get (parts_of own) its.cut.turn) =
-      ap (λ (ps : List ℕ). slice_get ps its.cut.turn) (f.producers.positions i id w.unfenced (rw may refl)) ∙ get-map (λ part. end_or_start part s.entries) (parts_of own) its.cut.turn in
+      ap (λ (ps : List ℕ). slice_get ps its.cut.turn) (f.producers.positions i id w.unfenced (rw may refl)) ∙ slice_get-map (λ part. end_or_start part s.entries) (parts_of own) its.cut.turn in
       same its.batch.from (end_or_start its.batch.part s.entries) (sym its.begins ∙ at ∙ ap (option_map (λ part. end_or_start part s.entries)) its.part)
     where
       same : (a b : ℕ) → Some a ≡ Some b → a ≡ b

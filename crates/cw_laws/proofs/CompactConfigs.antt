@@ -35,6 +35,7 @@ use Rattle.cw_model.specs.Fences.{StandingFence}
 use Rattle.cw_laws.proofs.Framed.{each-first}
 use Rattle.cw_laws.proofs.Keys.{same_key-is, same_key-itself}
 use Rattle.cw_laws.proofs.Thinned.{comes, lasts, IsThinned, IsCleanList, lasts-allowed, fences-of, of-fences, fences-lasts}
+use Rattle.std.proofs.lemmas.Bool.{and_from}
 
 -- ---- what fields are read as
 
@@ -195,16 +196,12 @@ backed-by : (before : List ConfigRecord) (k : ConfigKey) (v : Option ConfigValue
 backed-by before (key.Commit name) (Some (value.Commit count)) fits = fits.tasks
 backed-by before k v fits = refl
 
-follows : (a b : Bool) → a ≡ true → b ≡ true → (a && b) ≡ true
-follows true b is e = e
-follows false b is e = absurd (cc)
-
 pub accepted-allowed : (before xs : List ConfigRecord) → AreAllowedConfigs before xs → AreAccepted before xs
 accepted-allowed before [] allowed = tt
 accepted-allowed before (x ∷ xs) allowed =
     let above : end_of before ≤ x.offset = allowed.0.rising in
     let is : leb (end_of before) x.offset ≡ true = grind (arith, nat_tests) in
-    (follows (leb (end_of before) x.offset) (is_backed before x.key x.value) is (backed-by before x.key x.value allowed.0.fits), accepted-allowed (before ++ x ∷ []) xs allowed.1)
+    (and_from (leb (end_of before) x.offset) (is_backed before x.key x.value) is (backed-by before x.key x.value allowed.0.fits), accepted-allowed (before ++ x ∷ []) xs allowed.1)
 
 -- ---- what is left
 

@@ -66,7 +66,7 @@ end-push rs r =
     ap next_behind (map-append (λ (r : StampedStatus). r.status.offset) rs (r ∷ []))
     ∙ fold-append (λ (end offset : ℕ). max end (offset + 1)) 0 (map (λ (r : StampedStatus). r.status.offset) rs) (r.status.offset ∷ [])
 
-next-push : (before : List Applied) (a : Applied) → next_after before ≤ a.offset → next_after (before ++ a ∷ []) ≡ a.offset + 1
+pub next-push : (before : List Applied) (a : Applied) → next_after before ≤ a.offset → next_after (before ++ a ∷ []) ≡ a.offset + 1
 next-push before a above =
     let e : next_after before ≡ ends 0 before = next_after-ends before in
     let pushed : ends 0 (before ++ a ∷ []) ≡ max (ends 0 before) (a.offset + 1) = fold-append (λ end (q : Applied). max end (q.offset + 1)) 0 before (a ∷ []) in

@@ -19,9 +19,7 @@ use Rattle.cw_config.specs.View.{generation_of, is_pending, is_fenced, count_in}
 use Rattle.cw_config.specs.Acceptance.{end_of}
 use Rattle.cw_model.specs.ConfigsAllowed.{IsAllowedConfig, AreAllowedConfigs}
 use Rattle.cw_laws.proofs.Lists.{each_from-each}
-
-pub end_of-push : (records : List ConfigRecord) (r : ConfigRecord) → end_of (records ++ r ∷ []) ≡ max (end_of records) (r.offset + 1)
-end_of-push records r = fold-append (λ end (r : ConfigRecord). max end (r.offset + 1)) 0 records (r ∷ [])
+use Rattle.cw_config.proofs.Pushed.{end_of-push}
 
 abbrev offset_in : Option ConfigRecord → Option ℕ
 offset_in o = option_map (λ (r : ConfigRecord). r.offset) o
@@ -68,7 +66,7 @@ pub allowed-first : (before xs ys : List ConfigRecord) → AreAllowedConfigs bef
 allowed-first before [] ys allowed = tt
 allowed-first before (r ∷ xs) ys allowed = (allowed.0, allowed-first (before ++ r ∷ []) xs ys allowed.1)
 
-allowed-rest : (before xs ys : List ConfigRecord) → AreAllowedConfigs before (xs ++ ys) → AreAllowedConfigs (before ++ xs) ys
+pub allowed-rest : (before xs ys : List ConfigRecord) → AreAllowedConfigs before (xs ++ ys) → AreAllowedConfigs (before ++ xs) ys
 allowed-rest before [] ys allowed = rw (append-nil before) allowed
 allowed-rest before (r ∷ xs) ys allowed = subst (λ l. AreAllowedConfigs l ys) (append_assoc before (r ∷ []) xs) (allowed-rest (before ++ r ∷ []) xs ys allowed.1)
 

@@ -48,7 +48,7 @@ use Rattle.cw_config.proofs.Pushed.{end_of-push}
 
 -- ---- records are read again as they are written
 
-read-again : (before : List ConfigRecord) (r : ConfigRecord) → IsAllowedConfig before r →
+pub read-again : (before : List ConfigRecord) (r : ConfigRecord) → IsAllowedConfig before r →
     config_in (config_applied r) ≡ Some r
 read-again before r a = ap (record_with r.offset r.stamp) (config_law r.key r.value a.key a.value a.kind)
 

@@ -32,6 +32,7 @@ use Rattle.cw_laws.proofs.Grows.{grows-data, journal-stays}
 use Rattle.cw_laws.proofs.DataPush.{batches-push, filter-push}
 use Rattle.cw_laws.proofs.Yields.{yields-same}
 use Rattle.cw_laws.proofs.Others.{OtherFacts}
+use Rattle.cw_offset.proofs.Replays.{option_or-none}
 
 -- ---- what is so of each committed transaction is so of those of a part
 
@@ -63,10 +64,6 @@ flat_map-agree : {X Y : Type 0} (f g : X → List Y) (xs : List X) → AllByRecu
 flat_map-agree f g [] each = refl
 flat_map-agree f g (x ∷ xs) each = ap (λ l. l ++ flat_map f xs) each.0 ∙ ap (λ l. g x ++ l) (flat_map-agree f g xs each.1)
 
-or_none : {X : Type 0} (o : Option X) → option_or o None ≡ o
-or_none None = refl
-or_none (Some x) = refl
-
 -- ---- the batch
 
 pub record MayWrite (setting : Setting) (s : Cluster) (batch : Batch) : Type 0 where
@@ -95,7 +92,7 @@ module _ (setting : Setting) (s : Cluster) (batch : Batch) (may : MayWrite setti
       ap (find (is_batch_of tag part)) (batches-push s.batches batch)
       ∙ find-append (is_batch_of tag part) (batches_of s.batches) (batch ∷ [])
       ∙ ap (λ (b : Bool). option_or (find (is_batch_of tag part) (batches_of s.batches)) (cond b (Some batch) None)) (fails tag part other)
-      ∙ or_none (find (is_batch_of tag part) (batches_of s.batches)) in
+      ∙ option_or-none (find (is_batch_of tag part) (batches_of s.batches)) in
       ap (λ (o : Option Batch). option_map_or (λ (b : Batch). b.values) o []) found
 
   records-same : (part : PartKey) → committed_records part s.entries log ≡ committed_records part s.entries s.batches

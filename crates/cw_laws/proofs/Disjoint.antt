@@ -11,9 +11,7 @@ use Rattle.cw_model.specs.State.{Cluster}
 use Rattle.cw_model.specs.Lookups.{row_of, is_member, is_same_incarnation, held}
 use Rattle.cw_model.specs.Safe.{IsDisjoint}
 use Rattle.cw_model.specs.FactsGroup.{GroupFacts, Claims}
-
-has-append : (xs ys : List Item) (x : Item) → has (xs ++ ys) x ≡ (has xs x || has ys x)
-has-append xs ys x = list_any-append (same_item x) xs ys
+use Rattle.cw_group.proofs.GroupLemmas.{has-append}
 
 -- a member that is looked up is the first, or is looked up behind it
 pub first-or : (b : Bool) (m k : Member) (rest : Option Member) → cond b (Some m) rest ≡ Some k → ((b ≡ true) × (m ≡ k)) ⊎ (rest ≡ Some k)

@@ -12,11 +12,6 @@ each-get P [] i x is each = cc
 each-get P (y ∷ ys) zero x is each = let one : y ≡ x = cc in subst P one each.0
 each-get P (y ∷ ys) (suc i) x is each = each-get P ys i x is each.1
 
-pub get-map : {X Y : Type 0} (f : X → Y) (xs : List X) (i : ℕ) → slice_get (map f xs) i ≡ option_map f (slice_get xs i)
-get-map f [] i = refl
-get-map f (x ∷ xs) zero = refl
-get-map f (x ∷ xs) (suc i) = get-map f xs i
-
 pub map-agree : {X : Type 0} (f g : X → ℕ) (xs : List X) → AllByRecursion (λ x. f x ≡ g x) xs → map f xs ≡ map g xs
 map-agree f g [] each = refl
 map-agree f g (x ∷ xs) each = let here : f x ≡ g x = each.0 in let behind : map f xs ≡ map g xs = map-agree f g xs each.1 in cc

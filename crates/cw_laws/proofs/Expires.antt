@@ -11,13 +11,14 @@ use Rattle.cw_group.specs.Group.{GroupState, for_member, opened, with_members, e
 use Rattle.cw_group.specs.Places.{IsGroup}
 use Rattle.cw_group.proofs.GroupLemmas.{group_kept, open_group}
 use Rattle.cw_model.specs.State.{Setting, Cluster}
-use Rattle.cw_model.specs.EventsWorkers.{expire, delay_behind}
+use Rattle.cw_model.specs.EventsWorkers.{expire}
 use Rattle.cw_model.specs.Facts.{AreFacts}
 use Rattle.cw_model.specs.FactsGroup.{GroupFacts}
 use Rattle.cw_laws.proofs.Wrappers.{closed-keeps, group-keeps}
 use Rattle.cw_laws.proofs.Regroup.{regroup, regrouped}
 use Rattle.cw_laws.proofs.Members.{Stays, opened-stays, opened-joined, without-found, each-without}
 use Rattle.cw_laws.proofs.Staying.{stays-known, stays-held, stays-assigned, open-unplanned, next-round}
+use Rattle.cw_group.specs.Circle.{delay_behind}
 
 expire-done : (o : Option Member) (group : GroupState) (gone : List Item × GroupState) → for_member o (λ m. Ok (m.claim, group)) ≡ Ok gone → group ≡ gone.1
 expire-done None group gone so = absurd (cc)

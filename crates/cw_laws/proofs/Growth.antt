@@ -39,7 +39,7 @@ use Rattle.cw_model.specs.Answers.{Answer}
 use Rattle.cw_model.specs.Updates.{changes_row, changes_instance, in_phase, with_configs, with_offset, with_status, with_entries, with_data, appends_configs, appends_offset, appends_status, appends_entries, appends_data, without_lead, stamped, task_id_of, tid_of, next_config, next_epoch}
 use Rattle.cw_model.specs.Tasks.{tag_of, span_of, cut_of, taking, polling_from}
 use Rattle.cw_model.specs.EventsWorkers.{spawn, kill, killed, deaf, hear, expire, loses, clock}
-use Rattle.cw_model.specs.EventsGroups.{join, joining, incarnation_in, close_round, store_plan, sync, stable_with, without_due_delay, is_due}
+use Rattle.cw_model.specs.EventsGroups.{join, joining, incarnation_in, close_round, store_plan, sync, stable_with, without_due_delay}
 use Rattle.cw_model.specs.EventsItems.{read_config, start_item, stop_item, restart}
 use Rattle.cw_model.specs.EventsLeading.{claim_lead, append_config, fence_one, append_fence, set_offsets, leading, fencing_on, fencing_of, fenced_tid, fence_record, without_fencing}
 use Rattle.cw_model.specs.EventsSources.{init, with_epoch, verify, fetch, produce, batch_of, put_offsets, offset_record, commit, committed_to, is_stale, is_bad_cut}
@@ -53,6 +53,7 @@ use Rattle.cw_model.specs.Grows.{Grows}
 use Rattle.cw_laws.proofs.Lists.{reads-push}
 use Rattle.cw_laws.proofs.Grows.{goes_on-same, grows-frame, grows-same, grows-trans, grows-row, grows-instance, grows-entries, grows-configs, grows-status, grows-offset, grows-data}
 use Rattle.cw_laws.proofs.Wrappers.{closed-keeps, if-keeps, worker-keeps, instance-keeps, group-keeps, entries-keeps, configs-keeps, offset-keeps, status-keeps, data-keeps, leader-keeps, producer-keeps}
+use Rattle.cw_group.specs.Circle.{is_due}
 
 -- ---- what an event does once it may
 

@@ -14,6 +14,7 @@ use Rattle.cw_keys.specs.declared.config_key.ConfigKey.TheVariants.{Connector, T
 use Rattle.cw_config.specs.declared.records.ConfigRecord.{ConfigRecord}
 use Rattle.cw_config.specs.Records.{same_key, last_where}
 use Rattle.cw_config.proofs.Rising.{last_where-cons}
+use Rattle.cw_plugin.proofs.ShareLemmas.{bytes_same}
 
 same_number : (a b : ℕ) → (a == b) ≡ true → a ≡ b
 same_number a b e = grind (arith, nat_tests)
@@ -36,15 +37,12 @@ same_key-is (Target a) (Target b) e = ap Target ((bytes_eq-Decides a b).0 e)
 same_key-is (Fencing a) (Fencing b) e = ap Fencing ((bytes_eq-Decides a b).0 e)
 same_key-is a b e = absurd (cc)
 
-itself_name : (a : List ℕ) → bytes_eq a a ≡ true
-itself_name a = (bytes_eq-Decides a a).1 refl
-
 pub same_key-itself : (a : ConfigKey) → same_key a a ≡ true
-same_key-itself (Connector a) = itself_name a
-same_key-itself (Task a) = ap (λ (b : Bool). b && (a.index == a.index)) (itself_name a.connector) ∙ itself_number a.index
-same_key-itself (Commit a) = itself_name a
-same_key-itself (Target a) = itself_name a
-same_key-itself (Fencing a) = itself_name a
+same_key-itself (Connector a) = bytes_same a
+same_key-itself (Task a) = ap (λ (b : Bool). b && (a.index == a.index)) (bytes_same a.connector) ∙ itself_number a.index
+same_key-itself (Commit a) = bytes_same a
+same_key-itself (Target a) = bytes_same a
+same_key-itself (Fencing a) = bytes_same a
 
 pub last_where-append : (test : ConfigRecord → Bool) (xs ys : List ConfigRecord) → last_where test (xs ++ ys) ≡ option_or (last_where test ys) (last_where test xs)
 last_where-append test xs ys = ap (find test) (reverse-append xs ys) ∙ find-append test (reverse ys) (reverse xs)

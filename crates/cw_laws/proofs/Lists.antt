@@ -94,8 +94,3 @@ each_from-push P before (y ∷ ys) x each here =
 pub each_from-each : {A : Type 0} (P : List A → A → Type 0) (Q : A → Type 0) (before xs : List A) → ((before : List A) (x : A) → P before x → Q x) → EachFrom P before xs → AllByRecursion Q xs
 each_from-each P Q before [] so each = tt
 each_from-each P Q before (x ∷ xs) so each = (so before x each.0, each_from-each P Q (before ++ x ∷ []) xs so each.1)
-
-pub each-take : {X : Type 0} (P : X → Type 0) (n : ℕ) (xs : List X) → AllByRecursion P xs → AllByRecursion P (take n xs)
-each-take P zero xs each = tt
-each-take P (suc n) [] each = tt
-each-take P (suc n) (x ∷ xs) each = (each.0, each-take P n xs each.1)

@@ -26,14 +26,14 @@ readable at before (body ∷ bodies) [] read = absurd read
 readable at before (body ∷ bodies) (frame ∷ frames) read =
     (subst (λ o. IsSome o) (sym read.0) refl, readable at (before ++ body ∷ []) bodies frames read.1)
 
-reads-all : (stored : Stored) (frames : Frames) (log : LogName) (at : ℕ) → AreRead stored frames → (reading_of stored log).lacks at → ⊥
+pub reads-all : (stored : Stored) (frames : Frames) (log : LogName) (at : ℕ) → AreRead stored frames → (reading_of stored log).lacks at → ⊥
 reads-all stored frames Config at read = lacks-none (IsReadable records_at) stored.config.frames at (readable records_at [] stored.config.frames frames.config read.config)
 reads-all stored frames Offsets at read = lacks-none (IsReadable stored_at) stored.offsets.frames at (readable stored_at [] stored.offsets.frames frames.offsets read.offsets)
 reads-all stored frames Status at read = lacks-none (IsReadable records_at) stored.status.frames at (readable records_at [] stored.status.frames frames.status read.status)
 reads-all stored frames Txn at read = lacks-none (IsReadable entries_at) stored.txn at (readable entries_at [] stored.txn frames.txn read.txn)
 reads-all stored frames Batches at read = lacks-none (IsReadable data_at) stored.batches at (readable data_at [] stored.batches frames.batches read.batches)
 
-allows-all : (frames : Frames) (log : LogName) (at : ℕ) → AreSound (allowing_of frames) → (allowing_of frames log).lacks at → ⊥
+pub allows-all : (frames : Frames) (log : LogName) (at : ℕ) → AreSound (allowing_of frames) → (allowing_of frames log).lacks at → ⊥
 allows-all frames Config at sound = lacks-none _ frames.config at sound.0
 allows-all frames Offsets at sound = lacks-none _ frames.offsets at sound.1.0
 allows-all frames Status at sound = lacks-none _ frames.status at sound.1.1.0

@@ -67,7 +67,7 @@ each-of P (x ∷ before) r behind each = each-of P before r behind each.1
 records-take : (body : List ℕ) (records : List Applied) → AreBytes body → body_at records_at body ≡ Some records → AreRecords records × (body ≡ records_bytes records)
 records-take = body_takes records_at records_bytes AreRecords records_takes records_again
 
-stored-take : (body : List ℕ) (entry : OffsetEntry) → AreBytes body → body_at stored_at body ≡ Some entry → IsOffsetEntry entry × (body ≡ offset_body entry)
+pub stored-take : (body : List ℕ) (entry : OffsetEntry) → AreBytes body → body_at stored_at body ≡ Some entry → IsOffsetEntry entry × (body ≡ offset_body entry)
 stored-take = body_takes stored_at offset_body IsOffsetEntry stored_takes stored_again
 
 data-take : (body : List ℕ) (entry : DataEntry) → AreBytes body → body_at data_at body ≡ Some entry → IsDataEntry entry × (body ≡ data_body entry)

@@ -21,9 +21,9 @@ use Rattle.cw_model.specs.EventsLeading.{MayAppendConfig}
 use Rattle.cw_model.specs.Updates.{stamp_of}
 use Rattle.cw_laws.specs.Operations.{MayConfigure}
 use Rattle.cw_laws.proofs.ConfigViews.{task_count_of-push}
-use Rattle.cw_laws.proofs.Configs.{end_of-push}
 use Rattle.cw_laws.proofs.Keys.{same_key-itself}
 use Rattle.cw_laws.proofs.ValuesStand.{MayStand, recorded, values-allowed}
+use Rattle.cw_config.proofs.Pushed.{end_of-push}
 
 -- values that may stand anywhere may be written
 may-write : (s : Cluster) (leader : ℕ) (values : KeyedValues) → IsSome (row_of leader s).lead → 0 < length values → length values < 2 ^ 32 → AllByRecursion MayStand values →

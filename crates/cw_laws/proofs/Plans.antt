@@ -23,7 +23,7 @@ use Rattle.cw_group.specs.Places.{IsGroup}
 use Rattle.cw_group.proofs.GroupLemmas.{group_shares, held_once}
 use Rattle.cw_model.specs.State.{Setting, Cluster}
 use Rattle.cw_model.specs.Lookups.{row_of, is_member, items_of, configured_items}
-use Rattle.cw_model.specs.EventsGroups.{store_plan, is_due, is_running, without_due_delay, plan_for}
+use Rattle.cw_model.specs.EventsGroups.{store_plan, without_due_delay, plan_for}
 use Rattle.cw_model.specs.Facts.{AreFacts}
 use Rattle.cw_model.specs.FactsGroup.{GroupFacts, AreAmong, shared_items}
 use Rattle.cw_model.specs.declared.row.RowPhase.TheVariants.{Joining, Stable}
@@ -34,6 +34,7 @@ use Rattle.cw_laws.proofs.ItemOrder.{in_order-rises}
 use Rattle.cw_laws.proofs.Members.{Stays, shares-stay}
 use Rattle.cw_laws.proofs.Staying.{IsThere, member-there, stays-known, stays-held, stays-assigned}
 use Rattle.cw_laws.proofs.Shares.{valid-shares, shares-within, shared-once, all-shared, fresh-planned}
+use Rattle.cw_group.specs.Circle.{is_due, is_running}
 
 store-closed : (b c : Bool) (worker round : ℕ) (phase : Phase) →
     (if not (is_closed phase) then Some (OldGeneration round) else if not b then Some (OldGeneration round) else if not c then Some NotLeader else None) ≡ None → phase ≡ Closed

@@ -39,7 +39,7 @@ use Rattle.cw_assign.specs.Items.{has, same_item}
 use Rattle.cw_assign.proofs.ItemLemmas.{same_item-Decides}
 use Rattle.cw_model.specs.Updates.{stamp_of}
 use Rattle.cw_types.specs.Task.{task_id}
-use Rattle.cw_model.specs.Proposals.{proposal_of, deferred_tasks, same_property, same_properties, are_configs, is_stopped, needs_tasks, tasks_of, are_deferred, commit_records, task_records}
+use Rattle.cw_model.specs.Proposals.{proposal_of, deferred_tasks, same_property, same_properties, are_configs, needs_tasks, tasks_of, are_deferred, task_records}
 use Rattle.cw_laws.proofs.Configs.{last_where-holds}
 use Rattle.cw_laws.proofs.Disks.{and-first, and-second}
 use Rattle.cw_laws.proofs.Held.{holds_at, held-any}
@@ -50,6 +50,8 @@ use Rattle.cw_laws.proofs.Workers.{sound_at}
 use Rattle.cw_laws.proofs.Lists.{each_from-each}
 use Rattle.cw_laws.proofs.ValuesStand.{MayStand, values-allowed}
 use Rattle.cw_laws.proofs.TaskTexts.{AreWritable, tasks-writable, tasks-few}
+use Rattle.cw_rest.specs.Replies.{is_stopped}
+use Rattle.cw_rest.specs.Operations.{commit_values}
 
 -- ---- a connector's config
 
@@ -217,19 +219,19 @@ some-proposed name records (config ∷ configs) none = omega arith
 
 -- a connector's tasks, or their commit, may be written
 pub may-append : (leader : ℕ) (name : List ℕ) (s : Cluster) → IsSome (row_of leader s).lead → IsName name → AreAllowedConfigs [] s.configs → needs_tasks s.configs name ≡ true →
-    MayAppendConfig leader (if are_deferred s.configs name then commit_records name (length (proposal_of name s.configs)) else task_records name (proposal_of name s.configs)) s
+    MayAppendConfig leader (if are_deferred s.configs name then commit_values name (length (proposal_of name s.configs)) else task_records name (proposal_of name s.configs)) s
 may-append leader name s leads named allowed needs = either (are_deferred s.configs name) refl where
   asked : AreProposed name (proposal_of name s.configs)
   asked = proposal-facts name s.configs allowed
 
   either : (b : Bool) → are_deferred s.configs name ≡ b →
-      MayAppendConfig leader (if b then commit_records name (length (proposal_of name s.configs)) else task_records name (proposal_of name s.configs)) s
+      MayAppendConfig leader (if b then commit_values name (length (proposal_of name s.configs)) else task_records name (proposal_of name s.configs)) s
   either true deferred = record {
     leads = leads;
     some = omega arith;
     few = omega arith;
     allowed = (record { rising = omega arith; key = named; kind = refl; value = (omega (arith, asked.few), tt); fits = fits-commit name s.configs named allowed needs deferred }, tt);
-    no_fence = All-from_recursion (λ (r : ConfigKey × Option ConfigValue). is_fence_key r.0 ≡ false) (commit_records name (length (proposal_of name s.configs))) (refl, tt);
+    no_fence = All-from_recursion (λ (r : ConfigKey × Option ConfigValue). is_fence_key r.0 ≡ false) (commit_values name (length (proposal_of name s.configs))) (refl, tt);
   }
   either false none =
       let size : length (task_records name (proposal_of name s.configs)) ≡ length (proposal_of name s.configs) =
@@ -287,10 +289,10 @@ proposes-well w s f allowed p applies all = with_leader (ready w s) refl applies
   whole leads found =
       let parts = found-holds IsName (needs_tasks (seen w s)) (filter_map connector_in (held w s)) p.connector (connectors-named (held w s) (held-named w s f)) found in
       let may : MayAppendConfig p.leader
-      (if are_deferred s.configs p.connector then commit_records p.connector (length (proposal_of p.connector s.configs)) else task_records p.connector (proposal_of p.connector s.configs)) s =
+      (if are_deferred s.configs p.connector then commit_values p.connector (length (proposal_of p.connector s.configs)) else task_records p.connector (proposal_of p.connector s.configs)) s =
       may-append p.leader p.connector s leads parts.0 allowed (subst (λ (l : List ConfigRecord). needs_tasks l p.connector ≡ true) all parts.1) in
       subst (λ (l : List ConfigRecord). MayAppendConfig p.leader
-      (if are_deferred l p.connector then commit_records p.connector (length (proposal_of p.connector l)) else task_records p.connector (proposal_of p.connector l)) s) (sym all) may
+      (if are_deferred l p.connector then commit_values p.connector (length (proposal_of p.connector l)) else task_records p.connector (proposal_of p.connector l)) s) (sym all) may
 
   active : (b : Bool) (leader : ℕ) → (if b then leader_for (row_of w s).phase s else None) ≡ Some leader → IsSome (row_of leader s).lead
   active true leader is = leader-leads (row_of w s).phase leader s is
@@ -317,12 +319,12 @@ module _ (setting : Setting) (s : Cluster) (w : ℕ) (p : Proposing) (f : AreFac
   -- its tasks may be written, where they don't wait yet
   pub tasks-may : are_deferred (seen w s) p.connector ≡ false → MayAppendConfig p.leader (task_records p.connector (proposal_of p.connector (seen w s))) s
   tasks-may is = subst
-      (λ (b : Bool). MayAppendConfig p.leader (if b then commit_records p.connector (length (proposal_of p.connector (seen w s))) else task_records p.connector (proposal_of p.connector (seen w s))) s) is may
+      (λ (b : Bool). MayAppendConfig p.leader (if b then commit_values p.connector (length (proposal_of p.connector (seen w s))) else task_records p.connector (proposal_of p.connector (seen w s))) s) is may
 
   -- and then their commit
-  pub commit-may : are_deferred (seen w s) p.connector ≡ true → MayAppendConfig p.leader (commit_records p.connector (length (proposal_of p.connector (seen w s)))) s
+  pub commit-may : are_deferred (seen w s) p.connector ≡ true → MayAppendConfig p.leader (commit_values p.connector (length (proposal_of p.connector (seen w s)))) s
   commit-may is = subst
-      (λ (b : Bool). MayAppendConfig p.leader (if b then commit_records p.connector (length (proposal_of p.connector (seen w s))) else task_records p.connector (proposal_of p.connector (seen w s))) s) is may
+      (λ (b : Bool). MayAppendConfig p.leader (if b then commit_values p.connector (length (proposal_of p.connector (seen w s))) else task_records p.connector (proposal_of p.connector (seen w s))) s) is may
 
 -- a worker that is ready writes through a leader that has its epoch
 pub ready-leads : (w leader : ℕ) (s : Cluster) → ready w s ≡ Some leader → IsSome (row_of leader s).lead

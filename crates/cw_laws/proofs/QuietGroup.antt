@@ -21,7 +21,6 @@ use Rattle.cw_model.specs.declared.row.RowPhase.{RowPhase}
 use Rattle.cw_model.specs.declared.row.RowPhase.TheVariants.{Out, Joining, Stable}
 use Rattle.cw_model.specs.State.{Setting, Cluster}
 use Rattle.cw_model.specs.Lookups.{row_of, seen, is_member, configured_items}
-use Rattle.cw_model.specs.EventsGroups.{is_due}
 use Rattle.cw_model.specs.EventsLeading.{leads}
 use Rattle.cw_model.specs.FactsGroup.{AreAmong, IsWithinPlan, IsAsTold, share_items, shared_items}
 use Rattle.cw_model.specs.Ready.{is_stable_in}
@@ -34,6 +33,7 @@ use Rattle.cw_laws.proofs.Sync.{each-member}
 use Rattle.cw_laws.proofs.Staying.{IsThere, member-there}
 use Rattle.cw_laws.proofs.QuietRules.{NoRule, IsLowest, behind-found, first-found, each-found, group_facts, member-rule, member-join, calm-lowest, lowest-member}
 use Rattle.cw_laws.proofs.Tests.{not-second, all-three}
+use Rattle.cw_group.specs.Circle.{is_due}
 
 -- ---- the round is planned
 

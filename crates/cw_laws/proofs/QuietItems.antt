@@ -21,7 +21,7 @@ use Rattle.cw_model.specs.State.{Setting, Cluster}
 use Rattle.cw_model.specs.Lookups.{row_of, seen, is_member, held, configured_items, is_configured}
 use Rattle.cw_model.specs.EventsItems.{is_active}
 use Rattle.cw_model.specs.EventsLeading.{leads}
-use Rattle.cw_model.specs.Proposals.{proposal_of, tasks_of, same_property, same_properties, are_configs, is_stopped, needs_tasks}
+use Rattle.cw_model.specs.Proposals.{proposal_of, tasks_of, same_property, same_properties, are_configs, needs_tasks}
 use Rattle.cw_model.specs.Ready.{is_stable, is_stable_in, leads_round, leader_for, ready, connector_in, configured_connectors, pending_connectors}
 use Rattle.cw_model.specs.TickRules.{Proposing, may_start, waits_for_fence}
 use Rattle.cw_laws.specs.QuietLaws.{IsCalm, IsAssignedOnce, RunsAt, IsRunning}
@@ -30,6 +30,7 @@ use Rattle.cw_laws.proofs.ConfiguredItems.{find-none, connector-listed, listed-c
 use Rattle.cw_laws.proofs.QuietRules.{member-rule, calm-lowest, lowest-member}
 use Rattle.cw_laws.proofs.QuietGroup.{member-leads, member-seen, quiet-assigned}
 use Rattle.cw_laws.proofs.Tests.{not-second, all-three}
+use Rattle.cw_rest.specs.Replies.{is_stopped}
 
 -- ---- connectors among items
 

@@ -30,7 +30,7 @@ module _ (pre : List ℕ) (x : ℕ) (xs : List ℕ) (small : x < 128) (utf8 : Is
 same-byte : (a b : ℕ) → (a == b) ≡ true → a ≡ b
 same-byte a b e = grind (arith, nat_tests)
 
-digit-small : (c : ℕ) → is_digit c 16 ≡ true → c < 128
+pub digit-small : (c : ℕ) → is_digit c 16 ≡ true → c < 128
 digit-small c e = grind (arith, nat_tests)
 
 digit-value : (c : ℕ) → is_digit c 16 ≡ true → digit_value c < 16

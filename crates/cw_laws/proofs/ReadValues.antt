@@ -23,6 +23,7 @@ use Rattle.serde_json.specs.Data as found
 use Rattle.serde_json.specs.Read.{is_integer, float_of, number_from, number_of, of_json, of_items, of_members, max_depth, read}
 use Rattle.cw_json.specs.Reading.{reading}
 use Rattle.cw_laws.proofs.ReadTokens.{AreTextTokens, tokens-text}
+use Rattle.std.proofs.lemmas.Option.{some_pair_parts}
 
 -- ---- JSON
 
@@ -43,9 +44,6 @@ abbrev mutual
   AreTextMembers json.no_members = ⊤
   AreTextMembers (json.member k j ms) = IsUtf8 k × IsTextJson j × AreTextMembers ms
 
-pair-is : {A B : Type 0} (a y : A) (b rest : B) → ◌≡◌ {A = Option (A × B)} (Some (a, b)) (Some (y, rest)) → (a ≡ y) × (b ≡ rest)
-pair-is {A} {B} a y b rest e = let same : ◌≡◌ {A = A × B} (a, b) (y, rest) = cc in (ap (λ (p : A × B). p.0) same, ap (λ (p : A × B). p.1) same)
-
 -- what is read behind tokens that are texts, and the tokens that are left
 abbrev Reads : {A : Type 0} → (A → Type 0) → Parse A → Type 0
 Reads {A} P parse = (ts : List Token) (x : A) (rest : List Token) → AreTextTokens ts → parse ts ≡ Some (x, rest) → P x × AreTextTokens rest
@@ -55,7 +53,7 @@ mapped : {A B : Type 0} (P : A → Type 0) (Q : B → Type 0) (f : A → B) (o :
 mapped P Q f None y rest so each e = absurd (cc)
 mapped P Q f (Some (x, left)) y rest so each e =
     let there : P x × AreTextTokens left = each x left refl in
-    let same : (f x ≡ y) × (left ≡ rest) = pair-is (f x) y left rest e in
+    let same : (f x ≡ y) × (left ≡ rest) = some_pair_parts (f x) y left rest e in
     (subst Q same.0 (so x there.0), subst AreTextTokens same.1 there.1)
 
 then_ : {A B : Type 0} (P : A → Type 0) (Q : B → Type 0) (o : Option (A × List Token)) (next : A → Parse B) (y : B) (rest : List Token) →
@@ -77,16 +75,16 @@ IsTextKey (Some k) = IsUtf8 k
 key-text : (ts : List Token) (k : Option (List ℕ)) (rest : List Token) → AreTextTokens ts → read_key ts ≡ Some (k, rest) → IsTextKey k × AreTextTokens rest
 key-text [] k rest text e = absurd (cc)
 key-text (tok.end_object ∷ ts) k rest text e =
-    let same = pair-is None k ts rest e in (subst IsTextKey same.0 tt, subst AreTextTokens same.1 text.1)
+    let same = some_pair_parts None k ts rest e in (subst IsTextKey same.0 tt, subst AreTextTokens same.1 text.1)
 key-text (tok.key s ∷ ts) k rest text e =
-    let same = pair-is (Some s) k ts rest e in (subst IsTextKey same.0 text.0, subst AreTextTokens same.1 text.1)
+    let same = some_pair_parts (Some s) k ts rest e in (subst IsTextKey same.0 text.0, subst AreTextTokens same.1 text.1)
 key-text (t ∷ ts) k rest text e = absurd (cc)
 
 module _ (v : Parse Json) (each : Reads IsTextJson v) where
   items-step : (more : Parse json.Items) → Reads AreTextItems more → (ts : List Token) (o : Option (List Token)) (x : json.Items) (rest : List Token) → AreTextTokens ts →
       ((left : List Token) → o ≡ Some left → AreTextTokens left) → items_step v more ts o ≡ Some (x, rest) → AreTextItems x × AreTextTokens rest
   items-step more on ts (Some left) x rest text ends e =
-      let same : (json.no_items ≡ x) × (left ≡ rest) = pair-is json.no_items x left rest e in
+      let same : (json.no_items ≡ x) × (left ≡ rest) = some_pair_parts json.no_items x left rest e in
       (subst AreTextItems same.0 tt, subst AreTextTokens same.1 (ends left refl))
   items-step more on ts None x rest text ends e =
       then_ IsTextJson AreTextItems (v ts) (λ j left. parse_map (json.item j) (more left)) x rest (λ j left is. each ts j left text is)
@@ -99,7 +97,7 @@ module _ (v : Parse Json) (each : Reads IsTextJson v) where
 
   members-step : (more : Parse json.Members) → Reads AreTextMembers more → (k : Option (List ℕ)) → IsTextKey k → Reads AreTextMembers (members_step v more k)
   members-step more on None key ts x rest text e =
-      let same : (json.no_members ≡ x) × (ts ≡ rest) = pair-is json.no_members x ts rest e in
+      let same : (json.no_members ≡ x) × (ts ≡ rest) = some_pair_parts json.no_members x ts rest e in
       (subst AreTextMembers same.0 tt, subst AreTextTokens same.1 text)
   members-step more on (Some k) key ts x rest text e =
       then_ IsTextJson AreTextMembers (v ts) (λ j left. parse_map (json.member k j) (more left)) x rest (λ j left is. each ts j left text is)
@@ -121,13 +119,13 @@ with-text a o items_read members_read (tok.begin_array ∷ ts) x rest text e =
 with-text a o items_read members_read (tok.end_array ∷ ts) x rest text e = absurd (cc)
 with-text a o items_read members_read (tok.key s ∷ ts) x rest text e = absurd (cc)
 with-text a o items_read members_read (tok.string s ∷ ts) x rest text e =
-    let same : (json.string s ≡ x) × (ts ≡ rest) = pair-is (json.string s) x ts rest e in (subst IsTextJson same.0 text.0, subst AreTextTokens same.1 text.1)
+    let same : (json.string s ≡ x) × (ts ≡ rest) = some_pair_parts (json.string s) x ts rest e in (subst IsTextJson same.0 text.0, subst AreTextTokens same.1 text.1)
 with-text a o items_read members_read (tok.number s ∷ ts) x rest text e =
-    let same : (json.number s ≡ x) × (ts ≡ rest) = pair-is (json.number s) x ts rest e in (subst IsTextJson same.0 tt, subst AreTextTokens same.1 text.1)
+    let same : (json.number s ≡ x) × (ts ≡ rest) = some_pair_parts (json.number s) x ts rest e in (subst IsTextJson same.0 tt, subst AreTextTokens same.1 text.1)
 with-text a o items_read members_read (tok.boolean b ∷ ts) x rest text e =
-    let same : (json.boolean b ≡ x) × (ts ≡ rest) = pair-is (json.boolean b) x ts rest e in (subst IsTextJson same.0 tt, subst AreTextTokens same.1 text.1)
+    let same : (json.boolean b ≡ x) × (ts ≡ rest) = some_pair_parts (json.boolean b) x ts rest e in (subst IsTextJson same.0 tt, subst AreTextTokens same.1 text.1)
 with-text a o items_read members_read (tok.null ∷ ts) x rest text e =
-    let same : (json.null ≡ x) × (ts ≡ rest) = pair-is json.null x ts rest e in (subst IsTextJson same.0 tt, subst AreTextTokens same.1 text.1)
+    let same : (json.null ≡ x) × (ts ≡ rest) = some_pair_parts json.null x ts rest e in (subst IsTextJson same.0 tt, subst AreTextTokens same.1 text.1)
 with-text a o items_read members_read (tok.bad ∷ ts) x rest text e = absurd (cc)
 
 value-text : (depth : ℕ) → Reads IsTextJson (value depth)

@@ -86,7 +86,7 @@ stamped-frames : (entries : List Entry) (frames : List (List Applied)) → AllBy
 stamped-frames entries [] each = tt
 stamped-frames entries (frame ∷ frames) each = (each-first _ frame (joined frames) each, stamped-frames entries frames (each-rest _ frame (joined frames) each))
 
-each-nothing : {A : Type 0} (before xs : List A) → EachFrom (λ b x. ⊤) before xs
+pub each-nothing : {A : Type 0} (before xs : List A) → EachFrom (λ b x. ⊤) before xs
 each-nothing before [] = tt
 each-nothing before (x ∷ xs) = (tt, each-nothing (before ++ x ∷ []) xs)
 

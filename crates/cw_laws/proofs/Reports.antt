@@ -5,6 +5,7 @@ use Rattle.std.specs.List.{AllByRecursion, filter_map, list_any, list_all}
 use Rattle.std.proofs.lemmas.List.{map-append}
 use Rattle.std.proofs.lemmas.List.Elements.{filter_map-append}
 use Rattle.std.proofs.lemmas.List.Sums.{fold-append}
+use Rattle.std.proofs.lemmas.Str.Ascii.{IsAscii-cons}
 use borrow.Author.Tests.{ltb-true}
 use Rattle.std.specs.Fmt.{digits, digits_onto, digit_glyph}
 use Rattle.std.specs.Str.{IsAscii, IsUtf8}
@@ -118,14 +119,10 @@ status-keeps-facts setting r s fits stamp room f =
 
 -- ---- what a worker reports
 
-cons-ascii : (c : ℕ) (cs : List ℕ) → c < 128 → IsAscii cs → IsAscii (c ∷ cs)
-cons-ascii c cs here each zero = here
-cons-ascii c cs here each (suc i) = each i
-
 -- a text of a program, byte by byte
 literal-ascii : (cs : List ℕ) → list_all (λ c. nat_lt c 128) cs ≡ true → IsAscii cs
 literal-ascii [] all = λ i. omega arith
-literal-ascii (c ∷ cs) all = cons-ascii c cs (ltb-true c 128 (and-first (nat_lt c 128) (list_all (λ c. nat_lt c 128) cs) all))
+literal-ascii (c ∷ cs) all = IsAscii-cons c cs (ltb-true c 128 (and-first (nat_lt c 128) (list_all (λ c. nat_lt c 128) cs) all))
     (literal-ascii cs (and-second (nat_lt c 128) (list_all (λ c. nat_lt c 128) cs) all))
 
 pub literal-utf8 : (cs : List ℕ) → list_all (λ c. nat_lt c 128) cs ≡ true → IsUtf8 cs
@@ -144,7 +141,7 @@ digits-ascii : (k n : ℕ) (acc : List ℕ) → IsAscii acc → IsAscii (digits_
 digits-ascii zero n acc each = each
 digits-ascii (suc k) n acc each =
     let digit : n % 10 < 10 = omega arith in
-    let more : IsAscii (digit_glyph false (n % 10) ∷ acc) = cons-ascii (digit_glyph false (n % 10)) acc (glyph-below (nat_lt (n % 10) 10) (n % 10) digit) each in
+    let more : IsAscii (digit_glyph false (n % 10) ∷ acc) = IsAscii-cons (digit_glyph false (n % 10)) acc (glyph-below (nat_lt (n % 10) 10) (n % 10) digit) each in
     either-ascii (n / 10 == 0) (digit_glyph false (n % 10) ∷ acc) (digits_onto k 10 false (n / 10) (digit_glyph false (n % 10) ∷ acc)) more
     (digits-ascii k (n / 10) (digit_glyph false (n % 10) ∷ acc) more)
 

@@ -47,9 +47,10 @@ use Rattle.cw_laws.proofs.Others.{other_facts}
 use Rattle.cw_laws.proofs.Entered.{MayStand, entry_facts, others-behind, behind}
 use Rattle.cw_laws.proofs.SetStands.{set-stands}
 use Rattle.cw_laws.proofs.Written.{list-short}
-use Rattle.cw_laws.proofs.Ends.{each-get, get-map}
+use Rattle.cw_laws.proofs.Ends.{each-get}
 use Rattle.cw_laws.proofs.AtWork.{IsAtWork, parts-spec, at-work}
 use Rattle.cw_laws.proofs.PartMoves.{part_taken, MovesEnd, moved-keeps}
+use Rattle.cw_data.proofs.Lists.{slice_get-map}
 
 -- what is handed out, of a sink that hands out
 record Delivers (j : Instance) : Type 0 where
@@ -146,7 +147,7 @@ module _ (setting : Setting) (i : ℕ) (s : Cluster) (id : TaskId) (w : IsAtWork
   ends : end_or_start part s.entries ≡ (cut_of own).from
   ends =
       let at : slice_get own.positions (cut_of own).turn ≡ option_map (λ part. end_or_start part s.entries) (slice_get (parts_of own) (cut_of own).turn) =
-      ap (λ (ps : List ℕ). slice_get ps (cut_of own).turn) (f.producers.positions i id w.unfenced (rw delivered refl)) ∙ get-map (λ part. end_or_start part s.entries) (parts_of own) (cut_of own).turn in
+      ap (λ (ps : List ℕ). slice_get ps (cut_of own).turn) (f.producers.positions i id w.unfenced (rw delivered refl)) ∙ slice_get-map (λ part. end_or_start part s.entries) (parts_of own) (cut_of own).turn in
       let there : slice_get (parts_of own) (cut_of own).turn ≡ Some part = slice_get-get_or (parts_of own) (cut_of own).turn (Raw 0) out.within in
       same (end_or_start part s.entries) (cut_of own).from (sym (at ∙ ap (option_map (λ part. end_or_start part s.entries)) there) ∙ out.begins)
     where

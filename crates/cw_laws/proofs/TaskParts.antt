@@ -32,20 +32,17 @@ use Rattle.cw_plugin.proofs.TaskLemmas.{one_origin}
 use Rattle.cw_plugin.proofs.FaultlessLemmas.{Props}
 use Rattle.cw_laws.proofs.Lists.{each-weaker}
 use Rattle.cw_types.specs.Decimal.{number_of}
+use Rattle.std.proofs.lemmas.Option.{cond_some}
 
 -- ---- what gives something
 
-then_some : {A B : Type 0} (f : A → Option B) (o : Option A) (y : B) → option_and_then f o ≡ Some y → (x : A) × (o ≡ Some x) × (f x ≡ Some y)
+pub then_some : {A B : Type 0} (f : A → Option B) (o : Option A) (y : B) → option_and_then f o ≡ Some y → (x : A) × (o ≡ Some x) × (f x ≡ Some y)
 then_some f None y is = cc
 then_some f (Some x) y is = (x, refl, is)
 
 map_some : {A B : Type 0} (f : A → B) (o : Option A) (y : B) → option_map f o ≡ Some y → (x : A) × (o ≡ Some x) × (f x ≡ y)
 map_some f None y is = cc
 map_some f (Some x) y is = (x, refl, cc)
-
-if_some : {A : Type 0} (b : Bool) (x y : A) → cond b (Some x) None ≡ Some y → (b ≡ true) × (x ≡ y)
-if_some true x y is = (refl, cc)
-if_some false x y is = cc
 
 unless_some : {A : Type 0} (b : Bool) (o : Option A) (y : A) → cond b None o ≡ Some y → (b ≡ false) × (o ≡ Some y)
 unless_some true o y is = cc
@@ -66,8 +63,8 @@ names_source Outlet = false
 names_source Topics = false
 
 part-source : (connector : List ℕ) (field : Field) (e : List ℕ) (p : PartKey) → names_source field ≡ true → part_of connector field e ≡ Some p → IsSourceOf connector p
-part-source connector Feed e p of is = subst (IsSourceOf connector) (if_some (is_name e) (File connector e) p is).1 refl
-part-source connector Feeds e p of is = subst (IsSourceOf connector) (if_some (is_name e) (File connector e) p is).1 refl
+part-source connector Feed e p of is = subst (IsSourceOf connector) (cond_some (is_name e) (File connector e) p is).1 refl
+part-source connector Feeds e p of is = subst (IsSourceOf connector) (cond_some (is_name e) (File connector e) p is).1 refl
 part-source connector Sequences e p of is = subst (IsSourceOf connector) (map_some (Seq connector) (number_in 0 999 e) p is).2 refl
 part-source connector Count e p of is = cc
 part-source connector Topic e p of is = cc
@@ -75,7 +72,7 @@ part-source connector Outlet e p of is = cc
 part-source connector Topics e p of is = cc
 
 part-sink : (connector e : List ℕ) (p : PartKey) → part_of connector Topics e ≡ Some p → IsSinkOf connector p
-part-sink connector e p is = subst (IsSinkOf connector) (if_some (is_name e) (Sink connector e) p is).1 refl
+part-sink connector e p is = subst (IsSinkOf connector) (cond_some (is_name e) (Sink connector e) p is).1 refl
 
 named-none : (o : Option NameFault) → is_none o ≡ true → o ≡ None
 named-none None is = refl
@@ -89,15 +86,15 @@ within-most least most None n is = cc
 within-most least most (Some m) n is = grind (arith, nat_tests)
 
 part-named : (connector : List ℕ) (field : Field) (e : List ℕ) (p : PartKey) → IsName connector → part_of connector field e ≡ Some p → IsPart p
-part-named connector Feed e p own is = let it = if_some (is_name e) (File connector e) p is in subst IsPart it.1 (own, named e it.0)
-part-named connector Feeds e p own is = let it = if_some (is_name e) (File connector e) p is in subst IsPart it.1 (own, named e it.0)
+part-named connector Feed e p own is = let it = cond_some (is_name e) (File connector e) p is in subst IsPart it.1 (own, named e it.0)
+part-named connector Feeds e p own is = let it = cond_some (is_name e) (File connector e) p is in subst IsPart it.1 (own, named e it.0)
 part-named connector Sequences e p own is =
     let it = map_some (Seq connector) (number_in 0 999 e) p is in
     subst IsPart it.2 (own, omega (arith, within-most 0 999 (number_of (2 ^ 32 - 1) e) it.0 it.1))
 part-named connector Count e p own is = cc
 part-named connector Topic e p own is = cc
 part-named connector Outlet e p own is = cc
-part-named connector Topics e p own is = let it = if_some (is_name e) (Sink connector e) p is in subst IsPart it.1 (own, named e it.0)
+part-named connector Topics e p own is = let it = cond_some (is_name e) (Sink connector e) p is in subst IsPart it.1 (own, named e it.0)
 
 -- ---- the parts of elements
 
@@ -208,7 +205,7 @@ plain_source connector props class field batch spec is_source of adds is =
     let one = reads connector props (idle_task class batch) field (Topic ∷ []) spec is in
     let parts = adds (idle_task class batch) one.next one.text one.value in
     let two = reads connector props one.next Topic [] spec one.rest in
-    let topic = if_some (is_name two.text) (record (one.next) { topic = Some two.text }) two.next two.value in
+    let topic = cond_some (is_name two.text) (record (one.next) { topic = Some two.text }) two.next two.value in
     subst (IsSpecOf connector) (ap (λ (k : TaskSpec). record k { topic = Some two.text }) parts.2 ∙ topic.1 ∙ same_some two.next spec two.rest)
     (source_spec connector field (pieces field one.text) class batch 0 parts.0 two.text is_source of (parts-from connector field one.text parts.0 parts.1) (omega arith) topic.0)
 
@@ -220,7 +217,7 @@ sequence_source connector props batch spec is =
     let two = reads connector props one.next Count (Topic ∷ []) spec one.rest in
     let many = map_some (λ (n : ℕ). record (one.next) { count = n }) (count two.text) two.next two.value in
     let three = reads connector props two.next Topic [] spec two.rest in
-    let topic = if_some (is_name three.text) (record (two.next) { topic = Some three.text }) three.next three.value in
+    let topic = cond_some (is_name three.text) (record (two.next) { topic = Some three.text }) three.next three.value in
     subst (IsSpecOf connector)
     (ap (λ (k : TaskSpec). record k { topic = Some three.text; count = many.0 }) parts.2 ∙ ap (λ (k : TaskSpec). record k { topic = Some three.text }) many.2 ∙ topic.1 ∙ same_some three.next spec three.rest)
     (source_spec connector Sequences (pieces Sequences one.text) SequenceSource batch many.0 parts.0 three.text refl refl (parts-from connector Sequences one.text parts.0 parts.1)
@@ -229,7 +226,7 @@ sequence_source connector props batch spec is =
 stream_sink : (connector : List ℕ) (props : Props) (batch : ℕ) (spec : TaskSpec) → with_fields connector props (idle_task FileStreamSink batch) (Outlet ∷ Topics ∷ []) ≡ Some spec → IsSpecOf connector spec
 stream_sink connector props batch spec is =
     let one = reads connector props (idle_task FileStreamSink batch) Outlet (Topics ∷ []) spec is in
-    let file = if_some (is_name one.text) (record (idle_task FileStreamSink batch) { file = Some one.text }) one.next one.value in
+    let file = cond_some (is_name one.text) (record (idle_task FileStreamSink batch) { file = Some one.text }) one.next one.value in
     let two = reads connector props one.next Topics [] spec one.rest in
     let parts = map_some (λ (parts : List PartKey). record (one.next) { parts = parts }) (parts_of connector Topics two.text) two.next two.value in
     subst (IsSpecOf connector) (ap (λ (k : TaskSpec). record k { parts = parts.0 }) file.1 ∙ parts.2 ∙ same_some two.next spec two.rest)

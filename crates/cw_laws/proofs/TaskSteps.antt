@@ -1,10 +1,11 @@
 -- A task's step makes the event of its phase where that may be made, and fails the task where it finds it fenced: what
 -- these events keep, the step keeps.
 use Rattle.std.proofs.Common.{◌≡◌, ℕ, zero, suc, ◌+◌, ◌-◌, ◌<◌, ◌≤◌, ◌∷◌, [], ◌&&◌, Bool, true, false, not, cond, min, List, Option, Some, None, Result, Ok, is_some, nat_le, length, take, option_map, if◌then◌else◌, refl, subst, arith, length-take}
-use Rattle.cw_laws.proofs.Lists.{each-map, each-append, each-take}
+use Rattle.cw_laws.proofs.Lists.{each-map, each-append}
 use Rattle.std.proofs.lemmas.List.{length-map}
 use Rattle.std.specs.Option.{IsSomeAnd, option_map_or}
 use Rattle.std.specs.List.{AllByRecursion, find, filter, fold, range_with_len, enumerate_from}
+use Rattle.cw_data.proofs.Lists.{each_taken}
 use borrow.Author.Tests.{leb-true}
 use Rattle.cw_types.specs.declared.ids.Item.{Item}
 use Rattle.cw_types.specs.declared.ids.Item.TheVariants.{Connector, Task}
@@ -52,7 +53,7 @@ range-within a zero top fits = tt
 range-within a (suc n) top fits = (omega arith, range-within (a + 1) n top (omega arith))
 
 -- a turn is one of a part
-turns-within : (i : Instance) → AllByRecursion (λ turn. turn < length (parts_of i)) (turns_of i)
+pub turns-within : (i : Instance) → AllByRecursion (λ turn. turn < length (parts_of i)) (turns_of i)
 turns-within i =
     let first : ℕ = turn_behind i.last in
     let count : ℕ = length (parts_of i) in
@@ -111,7 +112,7 @@ module _ (topic : List ℕ) (from : ℕ) (log : List DataEntry) where
       (each-numbered 0 (stable topic log) (take (stable topic log) (records topic log)) (omega (arith, length-take (stable topic log) (records topic log))))
 
   pub each-gathered : AllByRecursion (Between from (stable topic log)) (take most_records (records_from topic from log))
-  each-gathered = each-take (Between from (stable topic log)) most_records (records_from topic from log)
+  each-gathered = each_taken (Between from (stable topic log)) most_records (records_from topic from log)
       (each-map (Between from (stable topic log)) (Between from (stable topic log)) placed (filter wanted standing) (λ p there. there) between)
 
   pub some-gathered : is_some (taken topic from log) ≡ true → 1 ≤ length (take most_records (records_from topic from log))
@@ -139,7 +140,7 @@ pub record EventsKeep (P : Cluster → Type 0) (setting : Setting) (i : ℕ) (s 
   pub fail : (trace : Trace) (t : Cluster) → P t → P (fail i trace t).1
 
 -- a task at work is one of a source or of a sink
-source-or-sink : (records : List ConfigRecord) (item : Item) (i : Instance) → is_working i.phase ≡ true → IsOfItem records item i → is_sink i ≡ false → is_source i ≡ true
+pub source-or-sink : (records : List ConfigRecord) (item : Item) (i : Instance) → is_working i.phase ≡ true → IsOfItem records item i → is_sink i ≡ false → is_source i ≡ true
 source-or-sink records (Connector name) i works o fails = absurd (let idle : is_working i.phase ≡ false = o.idle in cc)
 source-or-sink records (Task id) i works o fails = of (i.task) o.task fails where
   other : (b : Bool) → not b ≡ false → b ≡ true

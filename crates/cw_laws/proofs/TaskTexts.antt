@@ -1,7 +1,6 @@
 -- The properties of a connector's tasks are ones that a record can hold: their keys rise, and their texts are UTF-8
 -- where the connector's are; and there are at most 1,000 of them.
 use Rattle.std.proofs.Common.{◌≡◌, ℕ, zero, suc, ◌+◌, ◌-◌, ◌/◌, ◌%◌, ◌≤◌, ◌^◌, ◌++◌, ◌∷◌, [], Bool, true, false, not, cond, min, List, Option, Some, None, length, map, take, drop, codes, decimal, unwrap_or, option_map, bytes_eq, slice_index, refl, sym, subst, ap, arith, length-append}
-use Rattle.cw_laws.proofs.Lists.{each-take}
 use Rattle.std.specs.Option.{option_map_or}
 use Rattle.std.specs.List.{AllByRecursion, filter, filter_map, cons_option, join_with_byte, range_with_len}
 use Rattle.std.specs.Str.{IsUtf8, IsCharBoundary}
@@ -28,6 +27,8 @@ use Rattle.cw_plugin.specs.Lists.{elements}
 use Rattle.cw_plugin.specs.Numbers.{within, or_default, sequences}
 use Rattle.cw_plugin.specs.Tasks.{once, shared_in, groups, parted_up_to, share_count, shares, task_value, task_pair, task_config, configs_of_class, class_in, task_configs}
 use Rattle.cw_laws.proofs.Reports.{literal-utf8, decimal-utf8}
+use Rattle.cw_data.proofs.Waiting.{each_dropped}
+use Rattle.cw_data.proofs.Lists.{each_taken}
 
 abbrev Props : Type 0
 Props = List (List ℕ × List ℕ)
@@ -92,17 +93,12 @@ shared-utf8 Topic text whole = tt
 shared-utf8 Outlet text whole = tt
 shared-utf8 Topics text whole = once-utf8 (elements text) (elements-utf8 text whole)
 
-each-drop : {X : Type 0} (P : X → Type 0) (n : ℕ) (xs : List X) → AllByRecursion P xs → AllByRecursion P (drop n xs)
-each-drop P zero xs each = each
-each-drop P (suc n) [] each = tt
-each-drop P (suc n) (x ∷ xs) each = each-drop P n xs each.1
-
 groups-utf8 : (count least more : ℕ) (es : List (List ℕ)) → AreUtf8 es → AreUtf8 (map (join_with_byte 44) (groups count least more es))
 unfolding groups
 groups-utf8 zero least more es each = tt
 groups-utf8 (suc count) least more es each = (
-  join-utf8 (take (least + min more 1) es) (each-take IsUtf8 (least + min more 1) es each),
-  groups-utf8 count least (more - 1) (drop (least + min more 1) es) (each-drop IsUtf8 (least + min more 1) es each),
+  join-utf8 (take (least + min more 1) es) (each_taken IsUtf8 (least + min more 1) es each),
+  groups-utf8 count least (more - 1) (drop (least + min more 1) es) (each_dropped IsUtf8 (least + min more 1) es each),
 )
 
 length-groups : (count least more : ℕ) (es : List (List ℕ)) → length (groups count least more es) ≡ count

@@ -5,6 +5,7 @@ use Rattle.std.proofs.lemmas.Bool.{not-true, or_right}
 use Rattle.std.specs.List.{AllByRecursion, find, filter, list_any}
 use Rattle.std.specs.Option.{option_or}
 use Rattle.std.proofs.Math.Seq.{take-length}
+use Rattle.cw_rest.specs.Operations.{commit_values}
 use borrow.Author.Tests.{ltb-true}
 use Rattle.cw_types.specs.declared.ids.Item.{Item}
 use Rattle.cw_types.specs.declared.logs.LogName.{LogName}
@@ -27,7 +28,7 @@ use Rattle.cw_model.specs.EventsMarking.{mark, MayMark, unmarked_in}
 use Rattle.cw_model.specs.EventsReports.{put_status, MayReport, state_of, is_item_at}
 use Rattle.cw_model.specs.FactsRows.{IsSoundRow, IsBegun}
 use Rattle.cw_model.specs.Ready.{is_stable, configured_connectors, pending_connectors}
-use Rattle.cw_model.specs.Proposals.{proposal_of, are_deferred, commit_records, task_records}
+use Rattle.cw_model.specs.Proposals.{proposal_of, are_deferred, task_records}
 use Rattle.cw_model.specs.TickRules.{Rule, rule, when, read_applies, reads, stop_applies, deaf_stop_applies, stops, join_applies, joins, close_applies, closes, plan_applies, plans, sync_applies, syncs, lead_applies, takes_lead, Proposing, propose_applies, proposes, tells, fence_applies, fences, mark_applies, marks_ended, may_start, start_applies, starts, is_reported, report_applies, reports_state, number_at, is_outdated}
 use Rattle.cw_model.specs.Tick.{rules, deaf_rules, first_rule, rule_for, follows, tick}
 use Rattle.cw_laws.proofs.Disks.{and-first, and-second}
@@ -199,7 +200,7 @@ may-claim w s applies = and-first (leads w (row_of w s).phase) (is_none (row_of 
 -- what a worker has its leader write for a connector
 abbrev pub proposed : ℕ → Cluster → List ℕ → KeyedValues
 proposed w s name =
-    if are_deferred (seen w s) name then commit_records name (length (proposal_of name (seen w s))) else task_records name (proposal_of name (seen w s))
+    if are_deferred (seen w s) name then commit_values name (length (proposal_of name (seen w s))) else task_records name (proposal_of name (seen w s))
 
 -- it may be written where the worker has read all
 abbrev pub ProposesWell : ℕ → Cluster → Type 0
@@ -233,10 +234,10 @@ module _ (P : Cluster → Type 0) (w : ℕ) (s : Cluster) (e : TickKeeps P w s) 
 
   proposes-keep : seen w s ≡ s.configs → (p : Proposing) → propose_applies w s ≡ Some p → P (proposes w s p).1
   proposes-keep all p is = either (are_deferred (seen w s) p.connector) (well p is all) where
-    either : (b : Bool) → MayAppendConfig p.leader (if b then commit_records p.connector (length (proposal_of p.connector (seen w s))) else task_records p.connector (proposal_of p.connector (seen w s))) s →
-        P (if b then tells (append_config p.leader (commit_records p.connector (length (proposal_of p.connector (seen w s)))) s) (λ offset _. outcome.Commit p.connector offset)
+    either : (b : Bool) → MayAppendConfig p.leader (if b then commit_values p.connector (length (proposal_of p.connector (seen w s))) else task_records p.connector (proposal_of p.connector (seen w s))) s →
+        P (if b then tells (append_config p.leader (commit_values p.connector (length (proposal_of p.connector (seen w s)))) s) (λ offset _. outcome.Commit p.connector offset)
         else tells (append_config p.leader (task_records p.connector (proposal_of p.connector (seen w s))) s) (λ _ _. outcome.Propose p.connector (length (proposal_of p.connector (seen w s))))).1
-    either true may = e.append p.leader (commit_records p.connector (length (proposal_of p.connector (seen w s)))) may
+    either true may = e.append p.leader (commit_values p.connector (length (proposal_of p.connector (seen w s)))) may
     either false may = e.append p.leader (task_records p.connector (proposal_of p.connector (seen w s))) may
 
   fences-keep : (name : List ℕ) → fence_applies w s ≡ Some name → P (fences w s name).1

@@ -9,7 +9,7 @@ use Rattle.cw_config.specs.declared.records.ConfigRecord.{ConfigRecord}
 use Rattle.cw_config.specs.Acceptance.{end_of}
 use Rattle.cw_rest.specs.Seen.{KeyedValues}
 use Rattle.cw_model.specs.ConfigsAllowed.{AreAllowedConfigs, FitsBehind}
-use Rattle.cw_laws.proofs.Configs.{end_of-push}
+use Rattle.cw_config.proofs.Pushed.{end_of-push}
 
 -- a key and a value that may stand behind any records
 pub record MayStand (kv : ConfigKey × Option ConfigValue) : Type 0 where

@@ -15,11 +15,12 @@ ghost use Rattle.cw_model.specs.EventsSinks.{MayDeliver, sink_cut};
 ghost use Rattle.cw_model.specs.EventsSources.{MayProduce};
 ghost use Rattle.cw_model.specs.Facts.{AreFacts};
 ghost use Rattle.cw_model.specs.Polls.{Delivery, source_turn, gathered};
-ghost use Rattle.cw_model.specs.Proposals.{proposal_of, are_deferred, commit_records, task_records};
+ghost use Rattle.cw_model.specs.Proposals.{proposal_of, are_deferred, task_records};
 ghost use Rattle.cw_model.specs.Tasks.{is_sink};
 ghost use Rattle.cw_model.specs.TickRules.{read_applies, stop_applies, lead_applies};
 ghost use Rattle.cw_model.specs.TickRules.{Proposing, propose_applies, fence_applies};
 ghost use Rattle.cw_model.specs.TickRules.{mark_applies, start_applies, report_applies};
+ghost use Rattle.cw_rest.specs.Operations.{commit_values};
 
 /// Where a rule of a worker's tick applies, and those before it don't, its event may be made: who has stopped all may
 /// join, who has read all may plan, who leads may claim, and what applies to an item or a log may be done with it.
@@ -41,7 +42,7 @@ pub fn proposals_may_be_written()
         MayAppendConfig p.leader (task_records p.connector (proposal_of p.connector (seen w s))) s }
     ensures commit { (setting : Setting) (s : Cluster) (w : ℕ) (p : Proposing) → AreFacts setting s →
         read_applies w s ≡ false → propose_applies w s ≡ Some p → are_deferred (seen w s) p.connector ≡ true →
-        MayAppendConfig p.leader (commit_records p.connector (length (proposal_of p.connector (seen w s)))) s }
+        MayAppendConfig p.leader (commit_values p.connector (length (proposal_of p.connector (seen w s)))) s }
 {}
 
 /// A leader that has read of a connector whose older tasks aren't fenced may fence the next of them (KIP-618), and once

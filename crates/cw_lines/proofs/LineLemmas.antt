@@ -1,7 +1,8 @@
 -- How a text falls into lines.
 use Rattle.std.proofs.Common.{◌≡◌, ℕ, ◌+◌, zero, suc, ◌<◌, ◌≤◌, List, [], ◌∷◌, ◌++◌, length, get_or, take, drop, nat_eq, Bool, true, false, cond, refl, ap, ◌∙◌, arith, eqb-true, zero-add, add-one}
 use Rattle.std.proofs.lemmas.List.Sums.{sum_by-append, sum_by-cons}
-use Rattle.cw_lines.specs.Lines.{onto_first, lines_of, line_ends, is_line}
+use Rattle.std.specs.List.{onto_first}
+use Rattle.cw_lines.specs.Lines.{lines_of, line_ends, is_line}
 use Rattle.cw_lines.specs.Plays.{line_behind}
 
 -- both sides of a test that must fail

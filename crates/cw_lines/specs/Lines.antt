@@ -1,15 +1,10 @@
 -- A script is lines, each ended by a line feed. The last may lack its end. This project's own format.
 use Rattle.std.specs.Prelude.{ℕ, ◌==◌, Bool, true, false, List, [], ◌∷◌, count_by, if◌then◌else◌}
-
--- a byte in front of the first line
-abbrev pub onto_first : ℕ → List (List ℕ) → List (List ℕ)
-onto_first c [] = (c ∷ []) ∷ []
-onto_first c (l ∷ ls) = (c ∷ l) ∷ ls
+use Rattle.std.specs.List.{slice_split}
 
 -- the texts between the line ends: one more than there are line ends, and the last has no end
 unfoldable pub lines_of : List ℕ → List (List ℕ)
-lines_of [] = [] ∷ []
-lines_of (c ∷ cs) = if c == 10 then [] ∷ lines_of cs else onto_first c (lines_of cs)
+lines_of bytes = slice_split (λ c. c == 10) bytes
 
 -- whether a text has no line end
 unfoldable pub is_line : List ℕ → Bool

@@ -16,6 +16,7 @@ use Rattle.cw_model.specs.State.{Cluster}
 use Rattle.cw_model.specs.Lookups.{row_of, held, is_member, configured_items}
 use Rattle.cw_model.specs.Answers.{Answer, answered, at_worker, at_group}
 use Rattle.cw_model.specs.Updates.{changes_row}
+use Rattle.cw_group.specs.Circle.{is_due, is_running}
 
 -- the group, which a worker has entered where it isn't a member
 abbrev pub entered : ℕ → Cluster → GroupState
@@ -48,16 +49,6 @@ MayJoin w s = is_member w s ≡ false → held w s ≡ []
 abbrev pub close_round : ℕ → Cluster → Answer (Unit {0})
 close_round w = at_worker w (λ s. at_group (close_row w s.group.round s.group)
     (λ group. answered tt (record s { group = group })) s)
-
--- whether a delay has run out
-abbrev pub is_due : (moment : ℕ) → Delay → Bool
-is_due moment Idle = false
-is_due moment (Until at) = nat_le at moment
-
--- whether a delay runs
-abbrev pub is_running : Delay → Bool
-is_running Idle = false
-is_running (Until at) = true
 
 -- a delay that has run out ends, and what was lost is free
 abbrev pub without_due_delay : Cluster → Cluster

@@ -13,6 +13,7 @@ use Rattle.cw_model.specs.State.{Setting, Cluster}
 use Rattle.cw_model.specs.Lookups.{new_row, is_at}
 use Rattle.cw_model.specs.Answers.{Answer, refused, answered, at_open, at_worker, at_group}
 use Rattle.cw_model.specs.Updates.{changes_row, ends_instances}
+use Rattle.cw_group.specs.Circle.{delay_behind}
 
 -- how many workers there may be
 abbrev pub most_workers : ℕ
@@ -39,12 +40,6 @@ deaf w = at_worker w (λ s. answered tt (changes_row w (λ row. record row { hea
 -- a worker hears the group again
 abbrev pub hear : ℕ → Cluster → Answer (Unit {0})
 hear w = at_worker w (λ s. answered tt (changes_row w (λ row. record row { hearing = true }) s))
-
--- the delay behind the loss of some items: it begins where it didn't run and something is lost
-abbrev pub delay_behind : (delay moment : ℕ) → List Item → Delay → Delay
-delay_behind delay moment [] running = running
-delay_behind delay moment (x ∷ lost) Idle = Until (min (moment + delay) (2 ^ 64 - 1))
-delay_behind delay moment (x ∷ lost) (Until at) = Until at
 
 -- a member has departed: what it might run is lost
 abbrev pub loses : Setting → List Item × GroupState → Cluster → Cluster

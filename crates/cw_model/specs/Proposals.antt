@@ -15,6 +15,7 @@ use Rattle.cw_keys.specs.declared.config_value.ConfigValue.TheVariants as value
 use Rattle.cw_config.specs.declared.records.ConfigRecord.{ConfigRecord}
 use Rattle.cw_config.specs.View.{Properties, config_of, target_of, task_count_of, task_of, deferred_of}
 use Rattle.cw_plugin.specs.Tasks.{task_configs}
+use Rattle.cw_rest.specs.Replies.{is_stopped}
 
 -- the tasks' configs that a connector's config asks for
 abbrev pub proposal_of : List ℕ → List ConfigRecord → List Properties
@@ -41,12 +42,6 @@ same_properties = pointwise same_property
 abbrev pub are_configs : List (Option Properties) → List Properties → Bool
 are_configs tasks proposal = pointwise (option_eq same_properties) tasks (map Some proposal)
 
--- whether a target state is that of a stopped connector (KIP-875)
-abbrev pub is_stopped : Target → Bool
-is_stopped Started = false
-is_stopped Paused = false
-is_stopped Stopped = true
-
 -- whether a connector that isn't stopped needs other tasks than it has
 abbrev pub needs_tasks : List ConfigRecord → List ℕ → Bool
 needs_tasks records name = not (is_stopped (target_of name records)) &&
@@ -56,10 +51,6 @@ needs_tasks records name = not (is_stopped (target_of name records)) &&
 abbrev pub are_deferred : List ConfigRecord → List ℕ → Bool
 are_deferred records name = are_configs (deferred_tasks name (length (proposal_of name records)) records)
     (proposal_of name records)
-
--- the record that commits so many tasks
-abbrev pub commit_records : List ℕ → ℕ → List (ConfigKey × Option ConfigValue)
-commit_records name count = (key.Commit name, Some (value.Commit count)) ∷ []
 
 -- a record for each task
 abbrev pub task_records : List ℕ → List Properties → List (ConfigKey × Option ConfigValue)

@@ -29,13 +29,15 @@ use Rattle.cw_model.specs.declared.tick.Tick.TheVariants as outcome
 use Rattle.cw_model.specs.State.{Cluster}
 use Rattle.cw_model.specs.Lookups.{row_of, seen, is_at, held, is_member, configured_items, is_configured}
 use Rattle.cw_model.specs.Answers.{Answer, answered}
-use Rattle.cw_model.specs.EventsGroups.{join, close_round, store_plan, sync, is_due}
+use Rattle.cw_model.specs.EventsGroups.{join, close_round, store_plan, sync}
 use Rattle.cw_model.specs.EventsItems.{read_config, start_item, stop_item}
 use Rattle.cw_model.specs.EventsLeading.{claim_lead, append_config, fence_one, append_fence, fencing_of, leads}
 use Rattle.cw_model.specs.EventsMarking.{mark, unmarked_in}
 use Rattle.cw_model.specs.EventsReports.{put_status, state_of, is_item_at}
 use Rattle.cw_model.specs.Ready.{is_stable, is_stable_in, ready, connector_in, pending_connectors}
-use Rattle.cw_model.specs.Proposals.{proposal_of, needs_tasks, are_deferred, commit_records, task_records}
+use Rattle.cw_model.specs.Proposals.{proposal_of, needs_tasks, are_deferred, task_records}
+use Rattle.cw_rest.specs.Operations.{commit_values}
+use Rattle.cw_group.specs.Circle.{is_due}
 
 -- ---- rules and what they tell
 
@@ -215,7 +217,7 @@ propose_applies w s = option_map_or
 abbrev pub proposes : ℕ → Cluster → Proposing → Answer Tick
 proposes w s p = let proposal = proposal_of p.connector (seen w s) in unless_lost (
     if are_deferred (seen w s) p.connector
-    then tells (append_config p.leader (commit_records p.connector (length proposal)) s)
+    then tells (append_config p.leader (commit_values p.connector (length proposal)) s)
     (λ offset _. outcome.Commit p.connector offset)
     else tells (append_config p.leader (task_records p.connector proposal) s)
     (λ _ _. outcome.Propose p.connector (length proposal)))

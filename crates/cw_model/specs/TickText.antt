@@ -10,6 +10,7 @@ use Rattle.cw_types.specs.Text.{tid_text}
 use Rattle.cw_keys.specs.Statuses.{state_name}
 use Rattle.cw_model.specs.declared.tick.Tick.{Tick}
 use Rattle.cw_model.specs.declared.tick.Tick.TheVariants as tick
+use Rattle.cw_rest.specs.Messages.{log_text}
 
 -- words, parted by one space
 abbrev pub words : List (List ℕ) → List ℕ
@@ -23,14 +24,6 @@ task_text id = id.connector ++ codes "/" ++ decimal id.index
 abbrev pub item_text : Item → List ℕ
 item_text (Connector name) = codes "c/" ++ name
 item_text (Task id) = codes "t/" ++ task_text id
-
--- the name of a log
-abbrev pub log_text : LogName → List ℕ
-log_text log.Config = codes "config"
-log_text log.Offsets = codes "offsets"
-log_text log.Status = codes "status"
-log_text log.Txn = codes "transactions"
-log_text log.Batches = codes "batches"
 
 -- how a transaction ended
 abbrev pub end_text : Bool → List ℕ

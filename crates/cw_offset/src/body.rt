@@ -1,7 +1,7 @@
 //! Bodies of the offset log.
 ghost use Rattle.std.specs.Prelude.{◌≡◌, ◌≢◌, ◌++◌, Some, None, Err, IfOk, OnOk, MatchResult};
 ghost use Rattle.cw_bytes.specs.declared.body.BodyFault.TheVariants.{NotBody, Memory};
-ghost use Rattle.cw_bytes.specs.Reading.{Gives, body_at};
+ghost use Rattle.cw_bytes.specs.Reading.{Reads, body_at};
 ghost use Rattle.cw_offset.specs.declared.body.OffsetEntry.{OffsetEntry};
 ghost use Rattle.cw_offset.specs.Body.{entry_bytes, IsEntry, HasRecords};
 ghost use Rattle.cw_offset.specs.BodyReading.{stored_at, marked_at, entry_at};
@@ -29,7 +29,7 @@ pub enum OffsetEntry {
 
 #[tactic(auto, unfolding(crate::specs::BodyReading::stored_at))]
 fn read_stored(alloc: Global, from: &mut Reader<'_>) -> Result<OffsetEntry, FieldFault>
-    ensures { Gives (λ entry. (entry, from.new)) result (stored_at from.old) }
+    ensures { Reads (λ entry. (entry, from.new)) result (stored_at from.old) }
 {
     let tag = read_tag(alloc, from)?;
     let records = read_records(alloc, from)?;
@@ -41,7 +41,7 @@ fn read_stored(alloc: Global, from: &mut Reader<'_>) -> Result<OffsetEntry, Fiel
 
 #[tactic(auto, unfolding(crate::specs::BodyReading::marked_at))]
 fn read_marked(alloc: Global, from: &mut Reader<'_>) -> Result<OffsetEntry, FieldFault>
-    ensures { Gives (λ entry. (entry, from.new)) result (marked_at from.old) }
+    ensures { Reads (λ entry. (entry, from.new)) result (marked_at from.old) }
 {
     let mark = read_mark(alloc, from)?;
     Ok(OffsetEntry::Mark(mark))
@@ -49,7 +49,7 @@ fn read_marked(alloc: Global, from: &mut Reader<'_>) -> Result<OffsetEntry, Fiel
 
 #[tactic(auto, unfolding(crate::specs::BodyReading::entry_at))]
 fn read_entry(alloc: Global, from: &mut Reader<'_>) -> Result<OffsetEntry, FieldFault>
-    ensures { Gives (λ entry. (entry, from.new)) result (entry_at from.old) }
+    ensures { Reads (λ entry. (entry, from.new)) result (entry_at from.old) }
 {
     let kind = from.take_u8()?;
     match kind {

@@ -13,18 +13,8 @@ use Rattle.cw_feed.specs.Yield.{Yield, records_between, record_text}
 use Rattle.cw_txn.specs.declared.entry.Entry.{Entry}
 use Rattle.cw_model.specs.Committed.{Agrees, BatchAgrees, batches_of, batch_in}
 use Rattle.cw_open.proofs.Steps.{refuted}
-
-each-append : {A : Type 0} (P : A → Type 0) (xs ys : List A) → AllByRecursion P xs → AllByRecursion P ys → AllByRecursion P (xs ++ ys)
-each-append P [] ys first rest = rest
-each-append P (x ∷ xs) ys first rest = (first.0, each-append P xs ys first.1 rest)
-
-each-rest : {A : Type 0} (P : A → Type 0) (xs ys : List A) → AllByRecursion P (xs ++ ys) → AllByRecursion P ys
-each-rest P [] ys all = all
-each-rest P (x ∷ xs) ys all = each-rest P xs ys all.1
-
-each-first : {A : Type 0} (P : A → Type 0) (xs ys : List A) → AllByRecursion P (xs ++ ys) → AllByRecursion P xs
-each-first P [] ys all = tt
-each-first P (x ∷ xs) ys all = (all.0, each-first P xs ys all.1)
+use Rattle.cw_laws.proofs.Lists.{each-append}
+use Rattle.cw_laws.proofs.Framed.{each-first, each-rest}
 
 module _ (feeds : Files) (entries : List Entry) where
   agrees-append : (xs ys : List DataEntry) → Agrees feeds entries xs → Agrees feeds entries ys → Agrees feeds entries (xs ++ ys)

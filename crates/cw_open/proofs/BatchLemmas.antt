@@ -1,10 +1,7 @@
 -- One frame more of the data log.
-use Rattle.std.proofs.Common.{◌≡◌, ◌↔◌, ℕ, ◌+◌, ◌<◌, Bool, true, false, ◌||◌, ◌&&◌, cond, IsTrue, is_some, List, [], ◌∷◌, ◌++◌, length, take, get_or, Option, Some, refl, sym, ap, subst, ◌∙◌}
+use Rattle.std.proofs.Common.{◌≡◌, ◌↔◌, ℕ, ◌+◌, ◌<◌, Bool, true, false, ◌||◌, ◌&&◌, cond, IsTrue, is_some, List, [], ◌∷◌, ◌++◌, length, take, get_or, Some, refl, sym, ap, subst, ◌∙◌}
 use Rattle.std.specs.List.{list_any, filter_map}
-use Rattle.std.specs.BTreeMap.{BTreeMap, get, is_at}
-use Rattle.std.specs.declared.cmp.Ordering.{Ordering}
-use Rattle.std.specs.declared.cmp.Ordering.TheVariants.{Less, Equal, Greater}
-use Rattle.std.specs.Ordering.{is_eq, ordering_then}
+use Rattle.std.specs.BTreeMap.{get, is_at}
 use Rattle.std.proofs.lemmas.List.{append-nil}
 use Rattle.std.proofs.lemmas.List.Elements.{filter_map-append, recursion_from_All, All-from_recursion}
 use Rattle.std.proofs.lemmas.List.Folds.{list_any-append}
@@ -28,11 +25,7 @@ use Rattle.cw_open.specs.PassedBatches.{key_order, ArePassedBatches, MayStand, T
 use Rattle.cw_open.proofs.Firsts.{taken_more, goes_on, first_lacks}
 use Rattle.cw_open.proofs.Steps.{refuted, never, always}
 use Rattle.cw_open.proofs.TagLemmas.{or_false, is_some-cond}
-
-is_eq-then : (o p : Ordering) → is_eq (ordering_then o p) ≡ (is_eq o && is_eq p)
-is_eq-then Less p = refl
-is_eq-then Equal p = refl
-is_eq-then Greater p = refl
+use Rattle.cw_open.proofs.SpanLemmas.{is_eq-then}
 
 key_at : (a b : BatchKey) → is_at (key_order a) b ≡ (same_tag b.tag a.tag && same_part b.part a.part)
 key_at a b =

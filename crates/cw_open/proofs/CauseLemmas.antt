@@ -15,10 +15,11 @@ use Rattle.cw_log.specs.declared.fault.OpenCause.{OpenCause}
 use Rattle.cw_log.specs.declared.fault.OpenCause.TheVariants as opening
 use Rattle.cw_pair.specs.Pair.{IsPairDamaged}
 use Rattle.cw_pair.specs.State.{faults_of}
-use Rattle.cw_open.specs.Reopened.{DiskFiles, disk_of, disk_in, HasPairHarm, HasTopicHarm, HasFileHarm, StandForSome, FirstHarmFrom, FailedAt, OnReopenCause, TellLog, CauseFrom}
+use Rattle.cw_open.specs.Reopened.{DiskFiles, disk_in, HasPairHarm, HasTopicHarm, HasFileHarm, StandForSome, FirstHarmFrom, FailedAt, OnReopenCause, TellLog, CauseFrom}
 use Rattle.cw_open.specs.declared.reopen_fault.ReopenFault.{ReopenFault}
 use Rattle.cw_open.specs.declared.reopen_fault.ReopenCause.{ReopenCause}
 use Rattle.cw_open.specs.declared.reopen_fault.ReopenCause.TheVariants.{Damaged, StoreFault, Memory}
+use Rattle.cw_world.specs.Logs.{disk_of}
 
 module _ {D : Type 0} (G : Ghosts D) where
   abbrev DamagedFrom : List LogName → Disks D → DiskName → ℕ → Harm → Type 0

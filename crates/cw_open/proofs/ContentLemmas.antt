@@ -10,12 +10,13 @@ use Rattle.cw_data.specs.BodyReading.{entry_at as data_at}
 use Rattle.cw_txn.specs.BodyReading.{entries_at}
 use Rattle.cw_model.specs.StandsFor.{Stored, AreReadAs, IsReadable, reading_of}
 use Rattle.cw_open.specs.FoundFrames.{FoundState, HasFound, AreFound, AreGates, IsFirstUnread, IsFoundIn}
-use Rattle.cw_open.specs.Contents.{AreAllFound, AreChosen, AreFoundIn, IsFirstUnreadable, IsFoundOf, frames_of, gates_in, gates_of, list_in}
+use Rattle.cw_open.specs.Contents.{AreAllFound, AreChosen, AreFoundIn, IsFirstUnreadable, IsFoundOf, frames_of, gates_in, gates_of}
 use Rattle.cw_open.specs.declared.read_logs.ReadLogs.{ReadLogs}
 use Rattle.cw_log.specs.Log.{kind_of}
 use Rattle.cw_open.specs.OpenedLogs.{HasPairFound, HasTopicFound}
 use Rattle.cw_open.specs.Reopened.{DiskFiles}
 use Rattle.cw_open.proofs.FoundLemmas.{readable}
+use Rattle.cw_world.specs.Logs.{list_in}
 
 -- a log in which none is unreadable is read, and its gates stand where they were found
 all-of : {A : Type 0} (at : Unread → Read A) (found : FoundState A) (bodies : List (List ℕ)) → IsFoundIn at found bodies → found.unread ≡ None → AreFound at found.frames found.gates bodies

@@ -10,12 +10,9 @@ use Rattle.cw_bytes.specs.Frames.{EachFrom}
 use Rattle.cw_log.specs.Log.{length_of}
 use Rattle.cw_model.specs.StandsFor.{AreReadAs, IsFirstLacking, IsReadable}
 use Rattle.cw_open.specs.FoundFrames.{StandsAt, AreGates, AreFound, IsFirstUnread, FindsMore, FoundState, IsFoundIn}
+use Rattle.cw_laws.proofs.Disks.{length_of-push}
 
 -- ---- lists
-
-length_of-push : (bodies : List (List ℕ)) (body : List ℕ) → length_of (bodies ++ body ∷ []) ≡ length_of bodies + (length body + 5)
-length_of-push [] body = omega arith
-length_of-push (first ∷ bodies) body = omega (arith, length_of-push bodies body)
 
 zip-push : {A B : Type 0} (R : A → B → Type 0) (xs : List A) (ys : List B) (x : A) (y : B) → AllZip R xs ys → R x y → AllZip R (xs ++ x ∷ []) (ys ++ y ∷ [])
 zip-push R [] [] x y all here = (here, tt)

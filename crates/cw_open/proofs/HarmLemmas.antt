@@ -1,10 +1,9 @@
 -- The logs one after the other: the first that lacks something.
-use Rattle.std.proofs.Common.{ℕ, List, [], ◌∷◌, ◌++◌}
-use Rattle.std.specs.Bool.{⊤}
+use Rattle.std.proofs.Common.{ℕ, [], ◌∷◌}
 use Rattle.cw_types.specs.declared.logs.LogName.{LogName}
 use Rattle.cw_types.specs.declared.logs.LogName.TheVariants.{Config, Offsets, Status, Txn, Batches}
-use Rattle.cw_bytes.specs.Frames.{EachFrom}
 use Rattle.cw_model.specs.StandsFor.{Judgement, Frames, AreSound, IsFirstOf, safety_of}
+use Rattle.cw_laws.proofs.Reopens.{each-nothing}
 
 module _ (judge : LogName → Judgement) where
   pub config_first : (at : ℕ) → (judge Config).lacks at → IsFirstOf judge Config at
@@ -28,11 +27,6 @@ module _ (judge : LogName → Judgement) where
 
           pub all_sound : (judge Batches).sound → AreSound judge
           all_sound batches = (config, (offsets, (status, (txn, (batches, tt)))))
-
--- a log of which nothing is asked
-pub each-nothing : {A : Type 0} (before xs : List A) → EachFrom (λ b x. ⊤) before xs
-each-nothing before [] = tt
-each-nothing before (x ∷ xs) = (tt, each-nothing (before ++ x ∷ []) xs)
 
 -- safety is asked of the config log and of the transaction log alone
 module _ (frames : Frames) (config : (safety_of frames Config).sound) where

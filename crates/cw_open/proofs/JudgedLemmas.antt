@@ -1,5 +1,5 @@
 -- What eight disks are judged as: where the gate of a harmed frame stands, and that what was read is what is written.
-use Rattle.std.proofs.Common.{◌≡◌, inl, inr, ℕ, ◌+◌, ◌<◌, ◌^◌, false, Bool, List, [], ◌∷◌, ◌++◌, length, map, slice_index_or, Option, Some, None, Result, Ok, Err, refl, sym, ap, subst, ◌∙◌, arith, length-append}
+use Rattle.std.proofs.Common.{◌≡◌, inl, inr, ℕ, ◌<◌, ◌^◌, Bool, List, [], ◌∷◌, length, map, slice_index_or, Option, Some, None, Result, Ok, Err, refl, sym, ap, subst, ◌∙◌, arith, length-append}
 use Rattle.std.specs.Prelude.{IfErr, IfOk}
 use Rattle.std.specs.List.{AllZip}
 use Rattle.cw_types.specs.declared.logs.LogName.{LogName}
@@ -16,10 +16,8 @@ use Rattle.cw_bytes.proofs.Records.{records_takes, records_again}
 use Rattle.cw_txn.specs.Body.{entries_bytes, AreEntries}
 use Rattle.cw_txn.specs.BodyReading.{entries_at}
 use Rattle.cw_txn.proofs.Bodies.{body_takes as entries-take}
-use Rattle.cw_offset.specs.declared.body.OffsetEntry.{OffsetEntry}
 use Rattle.cw_offset.specs.Body.{entry_bytes as offset_body, IsEntry as IsOffsetEntry}
 use Rattle.cw_offset.specs.BodyReading.{entry_at as stored_at}
-use Rattle.cw_offset.proofs.Bodies.{entry_takes as stored_takes, entry_again as stored_again}
 use Rattle.cw_data.specs.declared.entry.DataEntry.{DataEntry}
 use Rattle.cw_data.specs.Body.{entry_bytes as data_body, IsEntry as IsDataEntry}
 use Rattle.cw_data.specs.BodyReading.{entry_at as data_at}
@@ -33,8 +31,8 @@ use Rattle.cw_laws.specs.Openings.{IsLogFile}
 use Rattle.cw_laws.proofs.OpenLogs.{bodies-spelled}
 use Rattle.cw_open.specs.FoundFrames.{AreGates, FoundState, IsFound, IsFoundIn, StandsAt}
 use Rattle.cw_open.specs.OpenedLogs.{IsReadLog}
-use Rattle.cw_open.specs.Contents.{AreAllFound, AreFoundIn, AreReadLogs, GateLists, IsFoundOf, SaysWhatIsRead, frames_of, gates_in, gates_of, list_in}
-use Rattle.cw_open.specs.Reopened.{CauseFrom, DiskFiles, FilesHold, FirstHarmFrom, FailedAt, OnReopenCause, TellAll, all_logs, disk_of}
+use Rattle.cw_open.specs.Contents.{AreAllFound, AreFoundIn, AreReadLogs, GateLists, IsFoundOf, SaysWhatIsRead, frames_of, gates_in, gates_of}
+use Rattle.cw_open.specs.Reopened.{CauseFrom, DiskFiles, FilesHold, FirstHarmFrom, FailedAt, OnReopenCause, TellAll, all_logs}
 use Rattle.cw_open.specs.Judged.{AreFoundInSome, AreLogsOf, HasFirstHarm, IsChosenDisk, IsLogOf, IsMet, IsMetOn, IsSoundly, IsWhyNot, SaysMet, judged_of, side_in, stored_by}
 use Rattle.cw_open.specs.declared.contents.Unreadable.{Unreadable}
 use Rattle.cw_open.specs.declared.first_harm.FramePlace.{FramePlace}
@@ -44,6 +42,8 @@ use Rattle.cw_open.specs.declared.read_logs.ReadLogs.{ReadLogs}
 use Rattle.cw_open.specs.declared.reopen_fault.ReopenFault.{ReopenFault}
 use Rattle.cw_open.specs.declared.reopen_fault.ReopenCause.{ReopenCause}
 use Rattle.cw_open.specs.declared.reopen_fault.ReopenCause.TheVariants.{Damaged, StoreFault, Memory}
+use Rattle.cw_world.specs.Logs.{disk_of, list_in}
+use Rattle.cw_laws.proofs.Opens.{stored-take}
 
 -- ---- the gate of a frame
 
@@ -95,9 +95,6 @@ module _ (stored : Stored) (frames : Frames) (gates : GateLists) (all : AreAllFo
 
 records-take : (body : List ℕ) (records : List Applied) → AreBytes body → body_at records_at body ≡ Some records → AreRecords records × (body ≡ records_bytes records)
 records-take = body_takes records_at records_bytes AreRecords records_takes records_again
-
-stored-take : (body : List ℕ) (entry : OffsetEntry) → AreBytes body → body_at stored_at body ≡ Some entry → IsOffsetEntry entry × (body ≡ offset_body entry)
-stored-take = body_takes stored_at offset_body IsOffsetEntry stored_takes stored_again
 
 data-take : (body : List ℕ) (entry : DataEntry) → AreBytes body → body_at data_at body ≡ Some entry → IsDataEntry entry × (body ≡ data_body entry)
 data-take = body_takes data_at data_body IsDataEntry data_takes data_again

@@ -1,5 +1,5 @@
 -- Files that stand for the lists of a state have no harm, and are opened as that state.
-use Rattle.std.proofs.Common.{◌≡◌, inl, inr, ℕ, List, [], ◌∷◌, Option, Some, None, IsSome, refl, sym, ap, subst, ◌∙◌}
+use Rattle.std.proofs.Common.{◌≡◌, inl, inr, ℕ, List, [], ◌∷◌, Some, IsSome, refl, sym, ap, subst, ◌∙◌}
 use Rattle.cw_types.specs.declared.logs.LogName.{LogName}
 use Rattle.cw_types.specs.declared.logs.LogName.TheVariants.{Config, Offsets, Status, Txn, Batches}
 use Rattle.cw_types.specs.declared.logs.DiskName.{DiskName}
@@ -24,6 +24,7 @@ use Rattle.cw_world.specs.Logs.{LogsState, view_in}
 use Rattle.cw_open.specs.Judged.{HasFirstHarm, HasFrameHarm}
 use Rattle.cw_open.specs.Leaving.{HaveKinds, IsSameBesidesSides, LeaveLists, MayLeaveAll, StandForLists, on_sides}
 use Rattle.cw_open.specs.Reopened.{DiskFiles, FilesHold, FirstHarmFrom, HasFileHarm, HasPairHarm, HasTopicHarm, all_logs}
+use Rattle.cw_laws.proofs.CompactConfigs.{some_value}
 
 -- ---- files that stand for lists
 
@@ -141,20 +142,16 @@ module _ (files : DiskFiles) (stored : Stored) (s : Cluster) (lists : StandForLi
 
 -- ---- what a stop leaves of a world that ended
 
-some-of : {A : Type 0} (o : Option A) → IsSome o → (a : A) × (o ≡ Some a)
-some-of (Some a) is = (a, refl)
-some-of None is = absurd (cc)
-
 pair-lists : {D : Type 0} (G : Ghosts D) (name : LogName) (pair : PairState D) (a b : D) (list : List (List ℕ)) (image_a image_b : List ℕ) → pair.log.kind ≡ kind_of name → IsSome (bodies_of G pair) →
     LeavesPair G pair a b list → G.may_leave a image_a → G.may_leave b image_b → PairStandsFor (kind_of name) list image_a image_b
 pair-lists G name pair a b list image_a image_b kind tells leaves left_a left_b =
-    let told = some-of (bodies_of G pair) tells in
+    let told = some_value (bodies_of G pair) tells in
     subst (λ (k : ℕ). PairStandsFor k list image_a image_b) kind (leaves told.0 told.1 image_a image_b left_a left_b)
 
 topic-lists : {D : Type 0} (G : Ghosts D) (name : LogName) (log : LogState D) (disk : D) (list : List (List ℕ)) (image : List ℕ) → log.kind ≡ kind_of name → IsSome log.bodies →
     LeavesLog G log disk list → G.may_leave disk image → StandsFor (kind_of name) list image
 topic-lists G name log disk list image kind tells leaves left =
-    let told = some-of log.bodies tells in subst (λ (k : ℕ). StandsFor k list image) kind (leaves told.0 told.1 image left)
+    let told = some_value log.bodies tells in subst (λ (k : ℕ). StandsFor k list image) kind (leaves told.0 told.1 image left)
 
 pub ended-lists : {D : Type 0} (G : Ghosts D) (logs : LogsState D) (disks : Disks D) (stored : Stored) → HaveKinds logs → ((log : LogName) → IsSome (view_in G log logs).bodies) →
     LeaveStored G stored logs disks → LeaveLists G disks stored

@@ -20,6 +20,8 @@ use Rattle.cw_model.specs.ConfigsAllowed.{AreAllowedConfigs, waiting_parts}
 use Rattle.cw_laws.proofs.AllowedTasks.{waits-below, waiting-facts}
 use Rattle.cw_open.specs.WaitingTasks.{AreReady, owner_of, is_others, IsFree, Gets, TakesPart, TakesParts, TakesTask}
 use Rattle.cw_open.proofs.Steps.{refuted, never, always}
+use Rattle.cw_laws.proofs.QuietItems.{some-is}
+use Rattle.cw_laws.proofs.Ticks.{some-of}
 
 -- ---- a part
 
@@ -200,14 +202,6 @@ tasks_begin before name now empty = record {
   );
 }
 
-is-there : {A : Type 0} (o : Option A) → IsSome o → is_some o ≡ true
-is-there None some = absurd (cc)
-is-there (Some x) some = refl
-
-there-is : {A : Type 0} (o : Option A) → is_some o ≡ true → IsSome o
-there-is None some = absurd (cc)
-there-is (Some x) some = refl
-
 at-or-below : (k at : ℕ) → k < at + 1 → (k < at) ⊎ (k ≡ at)
 at-or-below k at below = grind arith
 
@@ -215,7 +209,7 @@ module _ (before : List ConfigRecord) (allowed : AreAllowedConfigs [] before) (n
   pub tasks_more : (new : BTreeMap PartKey ℕ) (b : Bool) → TakesTask before (id_of name at) now new b → b ≡ true → WalkedTasks before name (at + 1) new
   tasks_more new b step told = record {
     tasks = all_more (is_waiting before name) at walked.tasks
-        ((waiting-facts (id_of name at) before allowed).some ∙ is-there (deferred_of (id_of name at) before) (step.fits.0 told).waits);
+        ((waiting-facts (id_of name at) before allowed).some ∙ some-is (deferred_of (id_of name at) before) (step.fits.0 told).waits);
     own = λ q k. (
       λ e. ⊎_elim
           (λ (was : owner_of now q ≡ Some k). let h : (k < at) × Contains (waiting_parts before name k) q = (walked.own q k).0 was in
@@ -233,7 +227,7 @@ module _ (before : List ConfigRecord) (allowed : AreAllowedConfigs [] before) (n
   pub tasks_not : (count : ℕ) → at < count → (new : BTreeMap PartKey ℕ) (b : Bool) → TakesTask before (id_of name at) now new b → b ≡ false
       → IsTrue false ↔ AreReady before name count
   tasks_not count within new b step not = never (λ ready. refuted b step.fits not (record {
-    waits = there-is (deferred_of (id_of name at) before)
+    waits = some-of (deferred_of (id_of name at) before)
         (sym (waiting-facts (id_of name at) before allowed).some ∙ waits-below before (id_of name at) count ready.tasks within);
     free = λ part there k e.
         let h : (k < at) × Contains (waiting_parts before name k) part = (walked.own part k).0 e in

@@ -1,5 +1,5 @@
 -- The offset behind records whose offsets rise.
-use Rattle.std.proofs.Common.{◌≡◌, ℕ, ◌+◌, ◌≤◌, max, Bool, true, false, nat_le, nat_lt, List, [], ◌∷◌, ◌++◌, map, Option, Some, None, refl, sym, ap, ◌∙◌, arith}
+use Rattle.std.proofs.Common.{◌≡◌, ℕ, ◌+◌, max, true, nat_le, nat_lt, List, [], ◌∷◌, ◌++◌, map, refl, ap, ◌∙◌, arith}
 use Rattle.std.specs.List.{fold}
 use Rattle.std.proofs.lemmas.List.{map-append}
 use Rattle.std.proofs.lemmas.List.Sums.{fold-append}
@@ -11,9 +11,6 @@ next_after-append : (records : List Applied) (r : Applied) → next_after (recor
 next_after-append records r =
     ap (fold (λ end offset. max end (offset + 1)) 0) (map-append (λ (a : Applied). a.offset) records (r ∷ []))
     ∙ fold-append (λ end offset. max end (offset + 1)) 0 (map (λ (a : Applied). a.offset) records) (r.offset ∷ [])
-
-pub next_after-push : (records : List Applied) (r : Applied) → next_after records ≤ r.offset → next_after (records ++ r ∷ []) ≡ r.offset + 1
-next_after-push records r above = let long = next_after-append records r in omega (arith, long)
 
 pub test_above : (end last offset : ℕ) → end ≡ last + 1 → nat_lt last offset ≡ nat_le end offset
 test_above end last offset is = grind (arith, nat_tests)

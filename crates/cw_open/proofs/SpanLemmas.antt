@@ -5,7 +5,7 @@ use Rattle.std.specs.BTreeMap.{get, is_at}
 use Rattle.std.specs.Ordering.{is_eq, nat_cmp, ordering_then}
 use Rattle.std.specs.declared.cmp.Ordering.{Ordering}
 use Rattle.std.specs.declared.cmp.Ordering.TheVariants.{Less, Equal, Greater}
-use Rattle.std.proofs.lemmas.Bool.{and_parts}
+use Rattle.std.proofs.lemmas.Bool.{and_parts, and_from}
 use Rattle.std.proofs.lemmas.Bool.Decides.{nat_tests}
 use Rattle.std.proofs.lemmas.List.{append-nil, take_all, take_more}
 use Rattle.std.proofs.lemmas.List.Elements.{filter_map-append}
@@ -26,7 +26,7 @@ use Rattle.cw_open.proofs.TagLemmas.{or_false, is_some-cond}
 
 -- ---- keys
 
-is_eq-then : (o p : Ordering) → is_eq (ordering_then o p) ≡ (is_eq o && is_eq p)
+pub is_eq-then : (o p : Ordering) → is_eq (ordering_then o p) ≡ (is_eq o && is_eq p)
 is_eq-then Less p = refl
 is_eq-then Equal p = refl
 is_eq-then Greater p = refl
@@ -89,10 +89,6 @@ same-number a b e = grind (arith, nat_tests)
 equal-number : (a b : ℕ) → b ≡ a → (a == b) ≡ true
 equal-number a b e = grind (arith, nat_tests)
 
-both-true : (a b : Bool) → a ≡ true → b ≡ true → (a && b) ≡ true
-both-true true b first second = second
-both-true false b first second = first
-
 abbrev of_span : Tag → Span → SpanKey
 of_span tag span = record { tag = tag; part = span.part; from = span.from; to = span.to }
 
@@ -104,8 +100,8 @@ for-from tag span batch e =
 
 from-for : (tag : Tag) (span : Span) (batch : Batch) → IsBatchFor tag span batch → is_batch_at (of_span tag span) batch ≡ true
 from-for tag span batch h =
-    both-true (is_batch_of tag span.part batch) ((span.from == batch.from) && (span.to == batch.to)) h.is_of
-    (both-true (span.from == batch.from) (span.to == batch.to) (equal-number span.from batch.from h.begins) (equal-number span.to batch.to h.ends))
+    and_from (is_batch_of tag span.part batch) ((span.from == batch.from) && (span.to == batch.to)) h.is_of
+    (and_from (span.from == batch.from) (span.to == batch.to) (equal-number span.from batch.from h.begins) (equal-number span.to batch.to h.ends))
 
 any-so : {A : Type 0} (P Q : A → Type 0) (xs : List A) → ((x : A) → P x → Q x) → Any P xs → Any Q xs
 any-so P Q xs so any = (any.0, any.1, any.2, any.3, so any.1 any.4)

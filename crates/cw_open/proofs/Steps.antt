@@ -1,11 +1,11 @@
 -- What the steps of a walk make of it.
 use Rattle.std.proofs.Common.{◌≡◌, ◌↔◌, ℕ, ◌+◌, ◌<◌, ◌≤◌, Bool, true, false, IsTrue, List, [], ◌∷◌, ◌++◌, length, take, get_or, refl, sym, ap, subst, ◌∙◌, append_assoc}
 use Rattle.std.proofs.lemmas.List.{append-nil, take_all, take_more}
-use Rattle.std.proofs.lemmas.List.Concat.{flat_map-append}
 use Rattle.cw_bytes.specs.Frames.{EachFrom, joined}
 use Rattle.cw_model.specs.StandsFor.{IsFirstLacking}
 use Rattle.cw_open.specs.Judging.{Steps, StepsAll}
 use Rattle.cw_open.proofs.Firsts.{taken_more, goes_on, stops, ends, first_lacks}
+use Rattle.cw_laws.proofs.Written.{joined-push}
 
 -- a test that says no, or yes
 pub refuted : {Q : Type 0} (b : Bool) → (IsTrue b ↔ Q) → b ≡ false → Q → ⊥
@@ -16,9 +16,6 @@ never apart = (λ e. cc, λ q. absurd (apart q))
 
 pub always : {Q : Type 0} → Q → IsTrue true ↔ Q
 always q = (λ _. q, λ _. refl)
-
-pub joined-push : {A : Type 0} (frames : List (List A)) (frame : List A) → joined (frames ++ frame ∷ []) ≡ joined frames ++ frame
-joined-push frames frame = flat_map-append (λ frame. frame) frames (frame ∷ []) ∙ ap (λ l. joined frames ++ l) (append-nil frame)
 
 -- what was walked of a list, each member of which lacked nothing
 pub record Walked {A : Type 0} (P : List A → A → Type 0) (old xs : List A) (at : ℕ) (value : List A) : Type 0 where

@@ -11,20 +11,12 @@ use Rattle.cw_txn.specs.BodyReading.{entries_at}
 use Rattle.cw_model.specs.StandsFor.{Stored, Frames, AreRead, IsFirstOf, reading_of}
 use Rattle.cw_log.specs.Log.{kind_of}
 use Rattle.cw_pair.specs.Pair.{IsRight}
-use Rattle.cw_world.specs.Logs.{LogsState, logs_of}
+use Rattle.cw_world.specs.Logs.{LogsState, logs_of, list_in}
 use Rattle.cw_open.specs.FoundFrames.{AreGates, IsFoundIn, StandsAt}
 use Rattle.cw_open.specs.OpenedLogs.{IsReadPair, IsReadTopic}
 use Rattle.cw_open.specs.Reopened.{DiskFiles, FilesHold}
 use Rattle.cw_open.specs.declared.read_logs.ReadLogs.{ReadLogs}
 use Rattle.cw_open.specs.declared.contents.Unreadable.{Unreadable}
-
--- the bodies of a log of this name, of what is stored
-abbrev pub list_in : LogName → Stored → List (List ℕ)
-list_in Config stored = stored.config.frames
-list_in Offsets stored = stored.offsets.frames
-list_in Status stored = stored.status.frames
-list_in Txn stored = stored.txn
-list_in Batches stored = stored.batches
 
 -- what is stored is what was found in the logs, whose side numbers are these
 pub record AreFoundIn {D : Type 0} (logs : ReadLogs D) (stored : Stored) : Type 0 where

@@ -20,13 +20,13 @@ use Rattle.cw_model.specs.Bodies.{most_log}
 use Rattle.cw_model.specs.StandsFor.{Stored, Frames, AreRead, AreSound, IsFirstHarm, allowing_of, safety_of}
 use Rattle.cw_laws.specs.Openings.{AreFiles}
 use Rattle.cw_open.specs.FoundFrames.{StandsAt}
-use Rattle.cw_open.specs.Contents.{AreFoundIn, frames_of, list_in}
+use Rattle.cw_open.specs.Contents.{AreFoundIn, frames_of}
 use Rattle.cw_open.specs.Reopened.{DiskFiles, FilesHold, FirstHarmFrom, FailedAt, OnReopenCause, TellAll, all_logs}
-use Rattle.cw_open.specs.Reopened.{disk_of}
 use Rattle.cw_open.specs.declared.read_logs.ReadLogs.{ReadLogs}
 use Rattle.cw_open.specs.declared.judged_disks.FrameHarm.{FrameHarm}
 use Rattle.cw_open.specs.declared.judged_disks.JudgedDisks.{JudgedDisks}
 use Rattle.cw_open.specs.declared.reopen_fault.ReopenFault.{ReopenFault}
+use Rattle.cw_world.specs.Logs.{disk_of, list_in}
 
 -- ---- disks whose frames are all allowed and safe
 

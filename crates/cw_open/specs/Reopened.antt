@@ -1,5 +1,5 @@
 -- What an opening of the eight disks of a cluster answers. This project's own, as are the files.
-use Rattle.std.specs.Prelude.{◌≡◌, ◌≤◌, ◌⊎◌, ℕ, ◌==◌, Bool, List, [], ◌∷◌, Some, if◌then◌else◌}
+use Rattle.std.specs.Prelude.{◌≡◌, ◌≤◌, ◌⊎◌, ℕ, Bool, List, [], ◌∷◌, Some}
 use Rattle.std.specs.List.{AllByRecursion}
 use Rattle.cw_types.specs.declared.logs.LogName.{LogName}
 use Rattle.cw_types.specs.declared.logs.LogName.TheVariants.{Config, Offsets, Status, Txn, Batches}
@@ -17,6 +17,7 @@ use Rattle.cw_open.specs.OpenedLogs.{IsNumbered}
 use Rattle.cw_open.specs.declared.reopen_fault.ReopenFault.{ReopenFault}
 use Rattle.cw_open.specs.declared.reopen_fault.ReopenCause.{ReopenCause}
 use Rattle.cw_open.specs.declared.reopen_fault.ReopenCause.TheVariants.{Damaged, StoreFault, Memory}
+use Rattle.cw_world.specs.Logs.{disk_of}
 
 -- the bytes of the eight disks
 pub record DiskFiles : Type 0 where
@@ -44,14 +45,6 @@ pub record FilesHold (files : DiskFiles) (stored : Stored) : Type 0 where
   pub batches : StandsFor (kind_of Batches) stored.batches files.batches
 
 -- ---- why they are not opened
-
--- the disk of a side of a log: 0 is side a, any other is side b
-abbrev pub disk_of : LogName → ℕ → DiskName
-disk_of Config side = if side == 0 then disk.ConfigA else disk.ConfigB
-disk_of Offsets side = if side == 0 then disk.OffsetsA else disk.OffsetsB
-disk_of Status side = if side == 0 then disk.StatusA else disk.StatusB
-disk_of Txn side = disk.Txn
-disk_of Batches side = disk.Batches
 
 -- two files of a log have this first harm, on this disk
 pub record HasPairHarm (name : LogName) (a b : List ℕ) (at : DiskName) (place : ℕ) (harm : Harm) : Type 0 where

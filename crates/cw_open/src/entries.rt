@@ -6,7 +6,8 @@ ghost use Rattle.cw_types.specs.declared.ids.Tid.{Tid};
 ghost use Rattle.cw_types.specs.Same.{tid_order};
 ghost use Rattle.cw_bytes.specs.Frames.{joined};
 ghost use Rattle.cw_txn.specs.Legal.{epoch_of, is_committed};
-ghost use Rattle.cw_open.specs.Entries.{bumps_of, Notes};
+ghost use Rattle.cw_open.specs.Entries.{Notes};
+ghost use Rattle.cw_txn.specs.Tables.{epoch_at};
 
 use crate::tags::Tags;
 use cw_tables::value_at;
@@ -126,7 +127,7 @@ fn note(
     committed: &mut Tags,
     entry: &Entry,
 ) -> Result<(), AllocError>
-    requires { (tid : Tid) → bumps_of epochs.old tid + 1 < 2 ^ 64 }
+    requires { (tid : Tid) → epoch_at epochs.old tid + 1 < 2 ^ 64 }
     ensures { OnOk result (Notes entry.now epochs.old committed.old epochs.new committed.new) }
 {
     match entry {
@@ -143,9 +144,9 @@ fn note(
 }
 
 fn raise(epochs: &mut BTreeMap<Tid, u64>, tid: &Tid) -> Result<(), AllocError>
-    requires { bumps_of epochs.old tid.now + 1 < 2 ^ 64 }
+    requires { epoch_at epochs.old tid.now + 1 < 2 ^ 64 }
     ensures { OnOk result ((q : Tid) → get tid_order epochs.new q ≡
-        (if is_at (tid_order tid.now) q then Some (bumps_of epochs.old tid.now + 1) else get tid_order epochs.old q)) }
+        (if is_at (tid_order tid.now) q then Some (epoch_at epochs.old tid.now + 1) else get tid_order epochs.old q)) }
 {
     let bumps = value_at(epochs, tid, 0);
     epochs.insert(tid.copy()?, bumps + 1)?;

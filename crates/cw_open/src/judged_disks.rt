@@ -2,13 +2,13 @@
 ghost use Rattle.std.specs.Prelude.{◌≡◌, IfOk, IfErr};
 ghost use Rattle.cw_model.specs.StandsFor.{Stored};
 ghost use Rattle.cw_world.specs.Ending.{disks_of as all_disks_of};
-ghost use Rattle.cw_world.specs.Logs.{logs_of};
+ghost use Rattle.cw_world.specs.Logs.{logs_of, disk_of};
 ghost use Rattle.cw_open.specs.Contents.{SaysWhatIsRead, frames_of, gates_of, logs_read};
 ghost use Rattle.cw_open.specs.Judged.{AreFoundInSome, AreLogsOf, IsMetOn, IsSoundly, IsWhyNot, SaysMet, judged_of};
 ghost use Rattle.cw_open.specs.Judged.{side_in, stored_by};
 ghost use Rattle.cw_open.specs.Opened.{logs_in};
 ghost use Rattle.cw_open.specs.OpenedFrom.{AreFrom, DisksStay};
-ghost use Rattle.cw_open.specs.Reopened.{DiskFiles, FilesHold, OnReopenCause, TellAll, disk_of};
+ghost use Rattle.cw_open.specs.Reopened.{DiskFiles, FilesHold, OnReopenCause, TellAll};
 
 use crate::contents::{ReadDisks, Unreadable, read_disks};
 use crate::first_harm::{FirstHarm, judge};

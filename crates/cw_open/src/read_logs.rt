@@ -9,8 +9,9 @@ ghost use Rattle.cw_txn.specs.BodyReading.{entries_at};
 ghost use Rattle.cw_disk.specs.declared.disks.Disks.{Disks};
 ghost use Rattle.cw_open.specs.OpenedFrom.{DisksStay, PairStays, TopicStays};
 ghost use Rattle.cw_open.specs.OpenedLogs.{OpensPair, OpensTopic};
-ghost use Rattle.cw_open.specs.Reopened.{CauseFrom, OnReopenCause, disk_of};
+ghost use Rattle.cw_open.specs.Reopened.{CauseFrom, OnReopenCause};
 ghost use Rattle.cw_log.specs.declared.fault.OpenCause.TheVariants.{Damaged, Failed, Memory};
+ghost use Rattle.cw_world.specs.Logs.{disk_of};
 
 use crate::opening::{OpenedPair, OpenedTopic, open_pair, open_topic};
 use crate::reopen_fault::{ReopenCause, ReopenFault};

@@ -17,14 +17,13 @@ impl Model for Rising {
     ghost use Rattle.std.specs.Prelude.{◌≡◌, List};
     ghost use Rattle.cw_bytes.specs.declared.applied.Applied.{Applied};
     ghost use Rattle.cw_bytes.specs.Frames.{next_after};
+    ghost use Rattle.cw_config.specs.Tables.{end_at};
 
     ghost Value = { List Applied };
 
-    ghost use Rattle.cw_open.specs.Tables.{behind};
-
     ghost view = { λ a. a.passed.items };
 
-    ghost invariant = { λ a. next_after a.passed.items ≡ behind a.last };
+    ghost invariant = { λ a. next_after a.passed.items ≡ end_at a.last };
 }
 
 impl Rising {

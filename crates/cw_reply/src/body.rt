@@ -1,5 +1,6 @@
 //! What the body of a call that makes or changes a connector says.
 ghost use Rattle.std.specs.Prelude.{◌≡◌, ◌&&◌, ◌==◌, Some, IfOk, option_map, option_and_then, string_bytes};
+ghost use Rattle.std.specs.Result.{result_ok};
 ghost use Rattle.serde_json.specs.View.{view};
 ghost use Rattle.cw_json.specs.Props.{props_of_data};
 ghost use Rattle.cw_rest.specs.Bodies as body;
@@ -31,7 +32,7 @@ pub(crate) fn has_members(count: usize, value: &Value) -> bool
 
 // The properties that a value is, if it is some.
 fn some_props(alloc: Global, value: &Value) -> Result<Option<Props>, AllocError>
-    ensures { IfOk result (λ props. props ≡ body.unless_fault (props_of_data (view value.now))) }
+    ensures { IfOk result (λ props. props ≡ result_ok (props_of_data (view value.now))) }
 {
     match props_of(alloc, value) {
         Ok(props) => Ok(Some(props)),

@@ -1,16 +1,16 @@
 -- What the body of a call that makes or changes a connector says: `{"name":n,"config":{..}}` for a new one, the
 -- properties alone for one that is named by the path. A property `name` may be there and must be the connector's; it
 -- is always kept, as in Kafka Connect.
-use Rattle.std.specs.Prelude.{ℕ, ◌+◌, ◌==◌, Bool, true, false, List, [], ◌∷◌, Option, Some, None, Result, Ok, Err}
+use Rattle.std.specs.Prelude.{ℕ, ◌+◌, ◌==◌, Bool, true, false, List, [], ◌∷◌, Option, Some, None}
 use Rattle.std.specs.Prelude.{bytes_eq, option_map, option_and_then, codes, if◌then◌else◌}
 use Rattle.std.specs.Option.{option_map_or}
+use Rattle.std.specs.Result.{result_ok}
 use Rattle.serde_json.specs.Data.{Data, Members, no_members, member}
 use Rattle.serde_json.specs.Find.{get, as_str, as_object}
 use Rattle.cw_json.specs.Reading.{reading}
 use Rattle.cw_json.specs.Inserting.{with_value}
 use Rattle.cw_json.specs.Pairs.{value_in}
 use Rattle.cw_json.specs.Props.{props_of_data}
-use Rattle.cw_json.specs.declared.fault.JsonFault.{JsonFault}
 use Rattle.cw_config.specs.View.{Properties}
 
 -- how many members an object has
@@ -26,11 +26,6 @@ has_members count value = option_map_or (λ members. member_count members == cou
 abbrev pub where_it : {A : Type 0} → (A → Bool) → A → Option A
 where_it test x = if test x then Some x else None
 
--- what was read, where nothing is wrong with it
-abbrev pub unless_fault : {A : Type 0} → Result A JsonFault → Option A
-unless_fault (Ok x) = Some x
-unless_fault (Err fault) = None
-
 -- whether the properties name this connector, or none
 abbrev pub may_be_named : List ℕ → Properties → Bool
 may_be_named name props = option_map_or (λ own. bytes_eq own name) (value_in props (codes "name")) true
@@ -38,7 +33,7 @@ may_be_named name props = option_map_or (λ own. bytes_eq own name) (value_in pr
 -- the properties of a connector, as they are kept
 abbrev pub named_config : List ℕ → Data → Option Properties
 named_config name value = option_map (with_value (codes "name") name)
-    (option_and_then (where_it (may_be_named name)) (unless_fault (props_of_data value)))
+    (option_and_then (where_it (may_be_named name)) (result_ok (props_of_data value)))
 
 -- the config that a body gives a connector
 abbrev pub config_in : List ℕ → List ℕ → Option Properties

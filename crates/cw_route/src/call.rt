@@ -3,6 +3,7 @@ ghost use Rattle.std.specs.Prelude.{◌≡◌, IfOk};
 
 use cw_types::{Listed, Name, TaskId};
 use std::alloc::AllocError;
+use thiserror::Error;
 
 /// A call of the REST API, with its body unread.
 #[derive(Debug, Drop)]
@@ -78,17 +79,22 @@ impl Call {
 
 /// Why a request is no call. The first that holds is told, in the order NotFound, NotAllowed,
 /// BadQuery, BadPath.
-#[derive(Clone, Copy, Debug, PartialEq, Eq, Drop)]
+#[derive(Clone, Copy, Debug, PartialEq, Eq, Drop, Error)]
 pub enum RouteFault {
     /// No pattern of the table spells the path.
+    #[error("not found")]
     NotFound,
     /// The path has other methods.
+    #[error("method not allowed")]
     NotAllowed,
     /// A part of the path is no name, or no task's number.
+    #[error("bad path")]
     BadPath,
     /// The target has a query.
+    #[error("query not supported")]
     BadQuery,
     /// There was no memory.
+    #[error("out of memory")]
     Memory,
 }
 

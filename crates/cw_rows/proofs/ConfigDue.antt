@@ -1,6 +1,6 @@
 -- What the row of an event is that writes records to the config log, and the halves of such an event.
 use Rattle.std.proofs.Common.{◌≡◌, ◌≢◌, ℕ, ◌==◌, ◌<◌, ◌≤◌, ◌&&◌, Bool, true, false, List, [], ◌∷◌, ◌++◌, map, length, take, slice_index_or, bytes_eq, Option, Some, None, Ok, Err, unwrap_or, if◌then◌else◌, refl, inl, inr, sym, ◌∙◌, ap, subst}
-use Rattle.std.proofs.lemmas.Bool.{cases_eq, eqb-true}
+use Rattle.std.proofs.lemmas.Bool.{cases_eq, eqb-true, and_left}
 use Rattle.std.proofs.lemmas.List.{length-set, get_or-set_other, take-append-le}
 use Rattle.std.proofs.lemmas.Grind.{get_or-set_at}
 use Rattle.cw_types.specs.declared.logs.LogName.TheVariants.{Config}
@@ -30,10 +30,7 @@ use Rattle.cw_rows.specs.Tests.{leader_test}
 use Rattle.cw_rows.specs.Writes.{IsDue, Readies, Refuses, Puts}
 use Rattle.cw_topics.proofs.ConfigFrames.{config-bytes}
 use Rattle.cw_rows.proofs.Due.{by_test, passes, refuses, open-alive, by-leader, refuses-same, refuses-behind}
-
-if-true : {A : Type 0} (b : Bool) (x y : A) → b ≡ true → (if b then x else y) ≡ x
-if-true true x y is = refl
-if-true false x y is = absurd (cc)
+use Rattle.cw_rows.proofs.Lists.{if-true}
 
 if-false : {A : Type 0} (b : Bool) (x y : A) → b ≡ false → (if b then x else y) ≡ y
 if-false true x y is = absurd (cc)
@@ -42,10 +39,6 @@ if-false false x y is = refl
 first-holds : (a b : Bool) → a ≡ true → (a && b) ≡ b
 first-holds true b is = refl
 first-holds false b is = absurd (cc)
-
-first-fails : (a b : Bool) → a ≡ false → (a && b) ≡ false
-first-fails true b is = absurd (cc)
-first-fails false b is = refl
 
 bodies-push : (frames : List (List Applied)) (frame : List Applied) →
     map records_bytes (frames ++ frame ∷ []) ≡ map records_bytes frames ++ records_bytes frame ∷ []
@@ -58,7 +51,7 @@ module _ {A : Type 0} (event : Cluster → Answer A) (frame : List ConfigRecord)
     (row : event s ≡ appends_configs frame change answer s) where
   -- where a record gets no offset, the log is full
   pub configs-unplaced : have_offsets frame ≡ false → event s ≡ refused (Full Config (config_length s) (frame_of (config_body frame))) s
-  configs-unplaced none = row ∙ if-false (fits_configs frame s) _ _ (first-fails (have_offsets frame) _ none)
+  configs-unplaced none = row ∙ if-false (fits_configs frame s) _ _ (and_left (have_offsets frame) _ none)
 
   module _ (places : have_offsets frame ≡ true) where
     -- where there is room, it is done

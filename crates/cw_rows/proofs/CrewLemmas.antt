@@ -16,18 +16,15 @@ use Rattle.cw_model.specs.Phases.{is_ended}
 use Rattle.cw_model.specs.Lookups.{is_at, no_instance}
 use Rattle.cw_model.specs.EventsWorkers.{most_workers}
 use Rattle.cw_model.specs.Updates.{in_phase}
-use Rattle.cw_rows.proofs.Lists.{each-set, each-push, each-weaker, each-map, each-at, map-same}
-use Rattle.cw_rows.specs.Crew.{CrewState, IsCrew, change_at, runs_at, places_from, with_place, numbers_at}
+use Rattle.cw_rows.proofs.Lists.{each-set, each-push, each-weaker, each-map, each-at, map-same, and-true, and-false}
+use Rattle.cw_rows.specs.Crew.{CrewState, IsCrew, change_at, places_from, with_place, numbers_at}
 use Rattle.cw_rows.proofs.Places.{length-one, places-push, places-same, places-map, places-none, places-drop, places-filter, changes-places, reads-places, places-within}
+use Rattle.cw_model.specs.EventsReports.{is_item_at}
 
 -- ---- what is at a worker
 
 at-same : (w : ℕ) (x y : Instance) → y.worker ≡ x.worker → is_ended y.phase ≡ is_ended x.phase → is_at w y ≡ is_at w x
 at-same w x y worker ended = ap (λ (v : ℕ). (v == w) && not (is_ended y.phase)) worker ∙ ap (λ (b : Bool). (x.worker == w) && not b) ended
-
-and-false : (b : Bool) → (b && false) ≡ false
-and-false true = refl
-and-false false = refl
 
 at-ended : (w : ℕ) (y : Instance) → is_ended y.phase ≡ true → is_at w y ≡ false
 at-ended w y ended = ap (λ (b : Bool). (y.worker == w) && not b) ended ∙ and-false (y.worker == w)
@@ -201,10 +198,6 @@ end-worker : (x : Instance) (b : Bool) → (if b then in_phase Ended x else x).w
 end-worker x true = refl
 end-worker x false = refl
 
-and-true : (b : Bool) → (b && true) ≡ b
-and-true true = refl
-and-true false = refl
-
 -- a worker's numbers are those of the instances that end with it, and tell what it holds
 pub ends-at : (w : ℕ) (instances : List Instance) →
     fold (change_at (λ i. true) (in_phase Ended) no_instance) instances (numbers_at w instances) ≡
@@ -250,7 +243,7 @@ module _ (rows : List Row) (instances : List Instance) (reads : List (List Confi
 
 pub ends-of : (w : ℕ) (item : Item) (instances : List Instance) →
     fold (change_at (λ i. same_item i.item item) (in_phase Ended) no_instance) instances (numbers_at w instances) ≡
-    map (λ i. if runs_at w item i then in_phase Ended i else i) instances
+    map (λ i. if is_item_at w item i then in_phase Ended i else i) instances
 ends-of w item instances = changes-places (is_at w) (λ i. same_item i.item item) (in_phase Ended) no_instance [] instances
 
 and-twice : (a b : Bool) → (a && b) ≡ ((a && b) && b)
@@ -258,7 +251,7 @@ and-twice true true = refl
 and-twice true false = refl
 and-twice false b = refl
 
-still-at : (w v : ℕ) (item : Item) (x : Instance) (b : Bool) → runs_at v item x ≡ b →
+still-at : (w v : ℕ) (item : Item) (x : Instance) (b : Bool) → is_item_at v item x ≡ b →
     is_at w (if b then in_phase Ended x else x) ≡ (is_at w x && not (is_ended (if b then in_phase Ended x else x).phase))
 still-at w v item x true is = and-false (x.worker == w) ∙ sym (and-false (is_at w x))
 still-at w v item x false is = and-twice (x.worker == w) (not (is_ended x.phase))
@@ -267,30 +260,30 @@ and-left : (a b : Bool) → (a && b) ≡ true → a ≡ true
 and-left true b is = refl
 and-left false b is = is
 
-ends-else : (w v : ℕ) (item : Item) (x : Instance) (b : Bool) → runs_at v item x ≡ b → v ≢ w →
+ends-else : (w v : ℕ) (item : Item) (x : Instance) (b : Bool) → is_item_at v item x ≡ b → v ≢ w →
     is_at w (if b then in_phase Ended x else x) ≡ is_at w x
 ends-else w v item x true is apart = end-else w v x true (and-left (is_at v x) (same_item x.item item) is) apart
 ends-else w v item x false is apart = refl
 
 module _ (rows : List Row) (instances : List Instance) (reads : List (List ConfigRecord)) (runs : List (List ℕ)) where
-  pub crew-ends : (w : ℕ) (item : Item) → w < length rows → (after : List (List ℕ)) → (let ended = map (λ i. if runs_at w item i then in_phase Ended i else i) instances in
+  pub crew-ends : (w : ℕ) (item : Item) → w < length rows → (after : List (List ℕ)) → (let ended = map (λ i. if is_item_at w item i then in_phase Ended i else i) instances in
       after ≡ set runs w (filter (λ n. not (is_ended (get_or ended n no_instance).phase)) (numbers_at w instances)) →
       IsCrew rows instances reads runs → IsCrew rows ended reads after)
   crew-ends w item here after step crew =
-      let ended = map (λ i. if runs_at w item i then in_phase Ended i else i) instances in
+      let ended = map (λ i. if is_item_at w item i then in_phase Ended i else i) instances in
       let kept = filter (λ n. not (is_ended (get_or ended n no_instance).phase)) (numbers_at w instances) in
       record {
         few = crew.few;
         reads_each = crew.reads_each;
         runs_each = ap (λ (r : List (List ℕ)). length r) step ∙ length-set runs w kept ∙ crew.runs_each;
-        at_worker = each-map (λ i. i.worker < length rows) (λ i. i.worker < length rows) (λ i. if runs_at w item i then in_phase Ended i else i) instances
-            (λ x below. subst (λ (v : ℕ). v < length rows) (sym (end-worker x (runs_at w item x))) below) crew.at_worker;
+        at_worker = each-map (λ i. i.worker < length rows) (λ i. i.worker < length rows) (λ i. if is_item_at w item i then in_phase Ended i else i) instances
+            (λ x below. subst (λ (v : ℕ). v < length rows) (sym (end-worker x (is_item_at w item x))) below) crew.at_worker;
         numbers = λ v within. ap (λ (r : List (List ℕ)). get_or r v []) step ∙ elim (cases_eq v w) [
           | inl same ↦ get_or-set_at runs w v kept [] same (omega (arith, here, crew.runs_each)) ∙
-              places-filter (is_at w) (λ i. not (is_ended i.phase)) (λ i. if runs_at w item i then in_phase Ended i else i) no_instance [] instances
-              (λ x. still-at w w item x (runs_at w item x) refl) ∙ ap (λ (u : ℕ). numbers_at u ended) (sym same)
+              places-filter (is_at w) (λ i. not (is_ended i.phase)) (λ i. if is_item_at w item i then in_phase Ended i else i) no_instance [] instances
+              (λ x. still-at w w item x (is_item_at w item x) refl) ∙ ap (λ (u : ℕ). numbers_at u ended) (sym same)
           | inr other ↦ get_or-set_other runs w v kept [] other ∙ crew.numbers v within ∙
-              sym (places-map (is_at v) (λ i. if runs_at w item i then in_phase Ended i else i) 0 instances
-              (λ x. ends-else v w item x (runs_at w item x) refl (λ same. other (sym same))))
+              sym (places-map (is_at v) (λ i. if is_item_at w item i then in_phase Ended i else i) 0 instances
+              (λ x. ends-else v w item x (is_item_at w item x) refl (λ same. other (sym same))))
         ];
       }

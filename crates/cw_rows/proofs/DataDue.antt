@@ -1,5 +1,5 @@
 -- What the tests of a task say of its row, and what the row of an event is that writes an entry to the data log.
-use Rattle.std.proofs.Common.{◌≡◌, ◌≢◌, ℕ, ◌+◌, ◌^◌, ◌==◌, ◌≤◌, Bool, true, false, List, [], ◌∷◌, ◌++◌, map, length, Option, Some, None, Result, Ok, Err, if◌then◌else◌, refl, sym, ◌∙◌, ap, subst, arith}
+use Rattle.std.proofs.Common.{◌≡◌, ◌≢◌, ℕ, ◌+◌, ◌^◌, ◌==◌, ◌≤◌, Bool, true, false, List, [], ◌∷◌, ◌++◌, length, Option, Some, None, Result, Ok, Err, if◌then◌else◌, refl, sym, ◌∙◌, ap, subst, arith}
 use Rattle.cw_types.specs.declared.ids.Tag.{Tag}
 use Rattle.cw_types.specs.declared.logs.DiskName.{DiskName}
 use Rattle.cw_types.specs.declared.logs.LogName.{LogName}
@@ -29,8 +29,10 @@ use Rattle.cw_rows.specs.Crew.{CrewState, with_instance}
 use Rattle.cw_group.specs.Circle.{CircleState}
 use Rattle.cw_topics.specs.Topics.{TopicsState}
 use Rattle.cw_rows.specs.Kept.{Kept, state_of, open_test, instance_test, HasSameLogs}
-use Rattle.cw_rows.specs.Producing.{and_test, producer_test, writing_test, cut_test, producing_test, AddsData, IsTooLong}
+use Rattle.cw_rows.specs.Producing.{producer_test, writing_test, cut_test, producing_test, AddsData, IsTooLong}
 use Rattle.cw_rows.specs.Writes.{IsDue, Readies, Refuses, Puts}
+use Rattle.std.specs.Result.{result_and}
+use Rattle.cw_rows.proofs.Lists.{if-true, map-push}
 
 -- ---- an event by its tests
 
@@ -49,7 +51,7 @@ tests-refuse {A} s test whole done fault by failed = by ∙ ap (λ (t : Result (
 
 writes-by : {A : Type 0} (s : Cluster) (done : Answer A) (closed : Option (DiskName × ℕ)) (ended last : Bool) (gone fenced : WorldFault) →
     unless_closed closed (if ended then refused gone s else (if last then done else refused fenced s)) s
-    ≡ by_tests s (and_test (open_test closed (if ended then Err gone else Ok tt)) (if last then Ok tt else Err fenced)) done
+    ≡ by_tests s (result_and (open_test closed (if ended then Err gone else Ok tt)) (if last then Ok tt else Err fenced)) done
 writes-by s done None true last gone fenced = refl
 writes-by s done None false true gone fenced = refl
 writes-by s done None false false gone fenced = refl
@@ -63,7 +65,7 @@ by-writing done s i = writes-by s (done s) s.closed (is_ended (instance_of i s).
     (Fenced (epoch_in (instance_of i s).epoch) (last_epoch (tid_of (instance_of i s).item) s))
 
 produces-by : {A : Type 0} (s : Cluster) (done : Answer A) (test : Result (Unit {0}) WorldFault) (bad : Bool) (fault : WorldFault) →
-    by_tests s test (if bad then refused fault s else done) ≡ by_tests s (and_test test (if bad then Err fault else Ok tt)) done
+    by_tests s test (if bad then refused fault s else done) ≡ by_tests s (result_and test (if bad then Err fault else Ok tt)) done
 produces-by s done (Ok u) true fault = refl
 produces-by s done (Ok u) false fault = refl
 produces-by s done (Err other) bad fault = refl
@@ -81,11 +83,11 @@ by-producing setting i cut s =
 
 -- ---- where the tests passed
 
-pub first-passed : (test other : Result (Unit {0}) WorldFault) → and_test test other ≡ Ok tt → test ≡ Ok tt
+pub first-passed : (test other : Result (Unit {0}) WorldFault) → result_and test other ≡ Ok tt → test ≡ Ok tt
 first-passed (Ok u) other passed = refl
 first-passed (Err fault) other passed = passed
 
-pub second-passed : (test other : Result (Unit {0}) WorldFault) → and_test test other ≡ Ok tt → other ≡ Ok tt
+pub second-passed : (test other : Result (Unit {0}) WorldFault) → result_and test other ≡ Ok tt → other ≡ Ok tt
 second-passed (Ok u) other passed = passed
 second-passed (Err fault) other passed = absurd (cc)
 
@@ -132,17 +134,9 @@ produce-refused setting i cut s fault failed = tests-refuse s (producing_test se
 
 -- ---- what writes an entry to the data log
 
-if-true : {A : Type 0} (b : Bool) (x y : A) → b ≡ true → (if b then x else y) ≡ x
-if-true true x y is = refl
-if-true false x y is = absurd (cc)
-
 if-false : {A : Type 0} (b : Bool) (x y : A) → b ≡ false → (if b then x else y) ≡ y
 if-false true x y is = absurd (cc)
 if-false false x y is = refl
-
-map-push : {A B : Type 0} (f : A → B) (xs : List A) (x : A) → map f (xs ++ x ∷ []) ≡ map f xs ++ f x ∷ []
-map-push f [] x = refl
-map-push {A} {B} f (y ∷ xs) x = ap (λ (l : List B). f y ∷ l) (map-push f xs x)
 
 pub has-bytes : (entry : DataEntry) → 1 ≤ length (entry_bytes entry)
 has-bytes (InBatch batch) = omega arith

@@ -1,5 +1,5 @@
 -- What the tests of an event say of its row, and what the row of an event is that writes entries.
-use Rattle.std.proofs.Common.{◌≡◌, ◌≢◌, ℕ, ◌==◌, Bool, true, false, List, [], ◌∷◌, ◌++◌, map, Option, Some, None, Result, Ok, Err, if◌then◌else◌, refl, sym, ◌∙◌, ap, subst}
+use Rattle.std.proofs.Common.{◌≡◌, ◌≢◌, ℕ, ◌==◌, Bool, true, false, List, [], ◌∷◌, map, Option, Some, None, Result, Ok, Err, if◌then◌else◌, refl, sym, ◌∙◌, ap, subst}
 use Rattle.std.specs.List.{find}
 use Rattle.cw_types.specs.declared.ids.Epoch.{Epoch}
 use Rattle.cw_types.specs.declared.ids.Span.{Span}
@@ -23,6 +23,7 @@ use Rattle.cw_rows.specs.Kept.{Kept, open_test, worker_test, instance_test, HasS
 use Rattle.cw_rows.specs.Tests.{epoch_test, producer_test, leader_test, bad_test, raw_test}
 use Rattle.cw_rows.specs.Writes.{IsDue, Readies, Refuses, Puts}
 use Rattle.cw_topics.proofs.Written.{has-bytes}
+use Rattle.cw_rows.proofs.Lists.{if-true, map-push}
 
 -- ---- an event by its test
 
@@ -120,17 +121,9 @@ module _ (n : ℕ) (epoch : Epoch) (list : List (ℕ × ℕ)) (s : Cluster) wher
 
 -- ---- what writes entries
 
-if-true : {A : Type 0} (b : Bool) (x y : A) → b ≡ true → (if b then x else y) ≡ x
-if-true true x y is = refl
-if-true false x y is = absurd (cc)
-
 if-false : {A : Type 0} (b : Bool) (x y : A) → b ≡ false → (if b then x else y) ≡ y
 if-false true x y is = absurd (cc)
 if-false false x y is = refl
-
-map-push : {A B : Type 0} (f : A → B) (xs : List A) (x : A) → map f (xs ++ x ∷ []) ≡ map f xs ++ f x ∷ []
-map-push f [] x = refl
-map-push {A} {B} f (y ∷ xs) x = ap (λ (l : List B). f y ∷ l) (map-push f xs x)
 
 module _ {A : Type 0} (event : Cluster → Answer A) (frame : List Entry) (change : Cluster → Cluster) (answer : A) (s : Cluster) where
   -- where there is room, it is done

@@ -1,7 +1,19 @@
--- Facts of each element of a list that is changed at a place, or has one more.
-use Rattle.std.proofs.Common.{◌≡◌, ℕ, ◌<◌, List, [], ◌∷◌, ◌++◌, length, map, get_or, set, zero, suc, arith, refl, ap, ◌∙◌}
+-- Facts of truth values, of choices, and of each element of a list that is changed at a place, or has one more.
+use Rattle.std.proofs.Common.{◌≡◌, ℕ, ◌<◌, List, [], ◌∷◌, ◌++◌, length, map, get_or, set, zero, suc, arith, refl, ap, ◌∙◌, Bool, true, false, ◌&&◌, if◌then◌else◌}
 use Rattle.std.specs.List.{AllByRecursion}
 use Rattle.std.proofs.lemmas.List.Elements.{All-from_recursion, recursion_from_All, All-set, All-push}
+
+pub and-true : (b : Bool) → (b && true) ≡ b
+and-true true = refl
+and-true false = refl
+
+pub and-false : (b : Bool) → (b && false) ≡ false
+and-false true = refl
+and-false false = refl
+
+pub if-true : {A : Type 0} (b : Bool) (x y : A) → b ≡ true → (if b then x else y) ≡ x
+if-true true x y is = refl
+if-true false x y is = absurd (cc)
 
 pub each-set : {X : Type 0} (P : X → Type 0) (xs : List X) (i : ℕ) (x : X) → P x → AllByRecursion P xs →
     AllByRecursion P (set xs i x)
@@ -27,6 +39,10 @@ pub each-at : {X : Type 0} (P : X → Type 0) (xs : List X) (i : ℕ) (d : X) �
 each-at P [] i d within each = absurd (omega arith)
 each-at P (x ∷ xs) zero d within each = each.0
 each-at P (x ∷ xs) (suc i) d within each = each-at P xs i d (omega arith) each.1
+
+pub map-push : {A B : Type 0} (f : A → B) (xs : List A) (x : A) → map f (xs ++ x ∷ []) ≡ map f xs ++ f x ∷ []
+map-push f [] x = refl
+map-push {A} {B} f (y ∷ xs) x = ap (λ (l : List B). f y ∷ l) (map-push f xs x)
 
 pub map-same : {X Y : Type 0} (f g : X → Y) (xs : List X) → ((x : X) → f x ≡ g x) → map f xs ≡ map g xs
 map-same f g [] same = refl

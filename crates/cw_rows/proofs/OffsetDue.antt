@@ -1,5 +1,5 @@
 -- What the row of an event is that writes an entry to the offset log.
-use Rattle.std.proofs.Common.{◌≡◌, ◌≢◌, ℕ, ◌≤◌, ◌<◌, ◌^◌, ◌&&◌, Bool, true, false, List, [], ◌∷◌, ◌++◌, map, length, Option, Some, None, Ok, Err, if◌then◌else◌, nat_lt, refl, sym, ◌∙◌, ap, subst, arith, length-append}
+use Rattle.std.proofs.Common.{◌≡◌, ◌≢◌, ℕ, ◌≤◌, ◌<◌, ◌^◌, ◌&&◌, Bool, true, false, List, [], ◌∷◌, ◌++◌, length, Option, Some, None, Ok, Err, if◌then◌else◌, nat_lt, refl, sym, ◌∙◌, ap, subst, arith, length-append}
 use Rattle.std.proofs.lemmas.Bool.{lt-ltb, le-ltb}
 use Rattle.cw_types.specs.declared.ids.Span.{Span}
 use Rattle.cw_types.specs.declared.ids.Tag.{Tag}
@@ -35,18 +35,11 @@ use Rattle.cw_rows.specs.Offsets.{AddsOffset, offset_marker, offered, record_at}
 use Rattle.cw_rows.specs.Producing.{writing_test}
 use Rattle.cw_rows.specs.Writes.{IsDue, Readies, Refuses, Puts}
 use Rattle.cw_rows.proofs.DataDue.{by_tests, tests-pass, tests-refuse, by-writing, writing-open, open-passed, refuses-so}
-
-if-true : {A : Type 0} (b : Bool) (x y : A) → b ≡ true → (if b then x else y) ≡ x
-if-true true x y is = refl
-if-true false x y is = absurd (cc)
+use Rattle.cw_rows.proofs.Lists.{if-true, map-push}
 
 if-false : {A : Type 0} (b : Bool) (x y : A) → b ≡ false → (if b then x else y) ≡ y
 if-false true x y is = absurd (cc)
 if-false false x y is = refl
-
-map-push : {A B : Type 0} (f : A → B) (xs : List A) (x : A) → map f (xs ++ x ∷ []) ≡ map f xs ++ f x ∷ []
-map-push f [] x = refl
-map-push {A} {B} f (y ∷ xs) x = ap (λ (l : List B). f y ∷ l) (map-push f xs x)
 
 has-bytes : (entry : OffsetEntry) → 1 ≤ length (entry_bytes entry)
 has-bytes (Records tag records) = omega arith

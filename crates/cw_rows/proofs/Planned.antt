@@ -27,6 +27,7 @@ use Rattle.cw_config.specs.Connectors.{AreConnectors}
 use Rattle.cw_config.proofs.Rising.{last_where-cons}
 use Rattle.cw_rest.specs.Seen.{connector_key}
 use Rattle.cw_model.specs.Lookups.{items_of, configured_items}
+use Rattle.std.proofs.lemmas.Bool.{or_right}
 
 -- ---- items that compare as equal are one
 
@@ -110,23 +111,19 @@ module _ (records : List ConfigRecord) where
 
 -- ---- their items
 
-or-true : (a b : Bool) → b ≡ true → (a || b) ≡ true
-or-true true b is = refl
-or-true false b is = is
-
 -- what holds of an element of one list holds of one of the other
 any-alike : (P : List ℕ → Bool) (xs ys : List (List ℕ))
     → ((name : List ℕ) → list_any (eq_by_cmp name_cmp name) xs ≡ true → list_any (eq_by_cmp name_cmp name) ys ≡ true)
     → list_any P xs ≡ true → list_any P ys ≡ true
 any-alike P [] ys within is = absurd (true≢false (sym is))
-any-alike P (x ∷ xs) ys within is = pick (P x) refl is (any-alike P xs ys (λ name there. within name (or-true (eq_by_cmp name_cmp name x) (list_any (eq_by_cmp name_cmp name) xs) there))) where
+any-alike P (x ∷ xs) ys within is = pick (P x) refl is (any-alike P xs ys (λ name there. within name (or_right (eq_by_cmp name_cmp name x) (list_any (eq_by_cmp name_cmp name) xs) there))) where
   there : (zs : List (List ℕ)) → P x ≡ true → list_any (eq_by_cmp name_cmp x) zs ≡ true → list_any P zs ≡ true
   there [] holds at = absurd (true≢false (sym at))
   there (z ∷ zs) holds at = here (eq_by_cmp name_cmp x z) refl at (there zs holds) where
     here : (b : Bool) → eq_by_cmp name_cmp x z ≡ b → (b || list_any (eq_by_cmp name_cmp x) zs) ≡ true → (list_any (eq_by_cmp name_cmp x) zs ≡ true → list_any P zs ≡ true)
         → (P z || list_any P zs) ≡ true
     here true one at rest = ap (λ (b : Bool). b || list_any P zs) (ap P (sym (named x z one)) ∙ holds)
-    here false other at rest = or-true (P z) (list_any P zs) (rest at)
+    here false other at rest = or_right (P z) (list_any P zs) (rest at)
 
   itself : eq_by_cmp name_cmp x x ≡ true
   itself = is_eq-slice_cmp x x ∙ (bytes_eq-Decides x x).1 refl

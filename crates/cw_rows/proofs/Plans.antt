@@ -12,11 +12,11 @@ use Rattle.cw_model.specs.declared.journal.JournalEntry.{JournalEntry}
 use Rattle.cw_model.specs.State.{Cluster}
 use Rattle.cw_model.specs.Answers.{Answer, answered, at_group}
 use Rattle.cw_model.specs.Lookups.{configured_items}
-use Rattle.cw_model.specs.EventsGroups.{is_due, without_due_delay, plan_for, store_plan}
+use Rattle.cw_model.specs.EventsGroups.{without_due_delay, plan_for, store_plan}
 use Rattle.cw_topics.specs.Topics.{TopicsState}
 use Rattle.cw_rows.specs.Kept.{state_of, worker_test}
 use Rattle.cw_rows.specs.Crew.{CrewState}
-use Rattle.cw_group.specs.Circle.{CircleState, with_group, freed, without_due, plan_in, StoresPlan}
+use Rattle.cw_group.specs.Circle.{CircleState, with_group, freed, without_due, plan_in, StoresPlan, is_due}
 use Rattle.cw_group.specs.Circle.{is_due as is_over}
 use Rattle.cw_rows.proofs.Joins.{worker-passes}
 

@@ -11,8 +11,9 @@ use Rattle.cw_model.specs.declared.instance.InstancePhase.TheVariants.{Ended}
 use Rattle.cw_model.specs.EventsItems.{runs}
 use Rattle.cw_model.specs.Phases.{is_ended}
 use Rattle.cw_model.specs.Updates.{in_phase}
-use Rattle.cw_rows.specs.Crew.{CrewState, with_ends, takes_part, ends_below, runs_at, change_at}
-use Rattle.cw_rows.proofs.Lists.{map-same, map-map, map-none}
+use Rattle.cw_rows.specs.Crew.{CrewState, with_ends, takes_part, ends_below, change_at}
+use Rattle.cw_rows.proofs.Lists.{map-same, map-map, map-none, and-true, and-false}
+use Rattle.cw_model.specs.EventsReports.{is_item_at}
 
 -- ends where a test says so
 abbrev ended_if : Bool → Instance → Instance
@@ -29,14 +30,6 @@ here-same true true = refl
 here-same true false = refl
 here-same false true = refl
 here-same false false = refl
-
-and-true : (b : Bool) → (b && true) ≡ b
-and-true true = refl
-and-true false = refl
-
-and-false : (b : Bool) → (b && false) ≡ false
-and-false true = refl
-and-false false = refl
 
 at-this : (w v : ℕ) → v ≡ w → (v == w) ≡ true
 at-this w v is = grind (arith, nat_tests, is)
@@ -78,7 +71,7 @@ module _ (rows : List Row) (item : Item) where
   ]
 
   -- one that isn't ended yet ends at this worker just where it would end below the next
-  ends-here : (w : ℕ) → takes_part rows w ≡ true → (x : Instance) → ends_below rows item w x ≡ false → runs_at w item x ≡ ends_below rows item (w + 1) x
+  ends-here : (w : ℕ) → takes_part rows w ≡ true → (x : Instance) → ends_below rows item w x ≡ false → is_item_at w item x ≡ ends_below rows item (w + 1) x
   ends-here w takes x not-yet = elim (cases_eq x.worker w) [
     | inl is ↦ ap (λ (b : Bool). (b && not (is_ended x.phase)) && same_item x.item item) (at-this w x.worker is) ∙
         here-same (same_item x.item item) (not (is_ended x.phase)) ∙
@@ -97,7 +90,7 @@ module _ (rows : List Row) (item : Item) where
 
   -- an instance behind both
   twice : (w : ℕ) → takes_part rows w ≡ true → (x : Instance) (b : Bool) → ends_below rows item w x ≡ b →
-      ended_if (runs_at w item (ended_if b x)) (ended_if b x) ≡ ended_if (ends_below rows item (w + 1) x) x
+      ended_if (is_item_at w item (ended_if b x)) (ended_if b x) ≡ ended_if (ends_below rows item (w + 1) x) x
   twice w takes x true is =
       ap (λ (b : Bool). ended_if b (in_phase Ended x)) (ap (λ (b : Bool). b && same_item x.item item) (and-false (x.worker == w))) ∙
       ap (λ (b : Bool). ended_if b x) (sym (stays-ended w x is))
@@ -105,14 +98,14 @@ module _ (rows : List Row) (item : Item) where
 
   -- the instances behind one worker more
   pub ends-next : (w : ℕ) → takes_part rows w ≡ true → (instances : List Instance) →
-      map (λ x. if runs_at w item x then in_phase Ended x else x) (map (λ x. if ends_below rows item w x then in_phase Ended x else x) instances) ≡
+      map (λ x. if is_item_at w item x then in_phase Ended x else x) (map (λ x. if ends_below rows item w x then in_phase Ended x else x) instances) ≡
       map (λ x. if ends_below rows item (w + 1) x then in_phase Ended x else x) instances
   ends-next w takes instances =
-      map-map (λ x. if ends_below rows item w x then in_phase Ended x else x) (λ x. if runs_at w item x then in_phase Ended x else x) instances ∙
-      map-same (λ x. let y = if ends_below rows item w x then in_phase Ended x else x in if runs_at w item y then in_phase Ended y else y)
+      map-map (λ x. if ends_below rows item w x then in_phase Ended x else x) (λ x. if is_item_at w item x then in_phase Ended x else x) instances ∙
+      map-same (λ x. let y = if ends_below rows item w x then in_phase Ended x else x in if is_item_at w item y then in_phase Ended y else y)
       (λ x. if ends_below rows item (w + 1) x then in_phase Ended x else x) instances
-      (λ x. ap (λ (y : Instance). if runs_at w item y then in_phase Ended y else y) (ended-is (ends_below rows item w x) x) ∙
-      ended-is (runs_at w item (ended_if (ends_below rows item w x) x)) (ended_if (ends_below rows item w x) x) ∙ twice w takes x (ends_below rows item w x) refl ∙
+      (λ x. ap (λ (y : Instance). if is_item_at w item y then in_phase Ended y else y) (ended-is (ends_below rows item w x) x) ∙
+      ended-is (is_item_at w item (ended_if (ends_below rows item w x) x)) (ended_if (ends_below rows item w x) x) ∙ twice w takes x (ends_below rows item w x) refl ∙
       sym (ended-is (ends_below rows item (w + 1) x) x))
 
   pub ends-over : (w : ℕ) → takes_part rows w ≡ false → (instances : List Instance) →
@@ -130,14 +123,14 @@ ends-none item s = ap (λ (xs : List Instance). record { rows = s.rows; instance
 
 -- one worker more, whether it takes part or not
 pub ends-more : (item : Item) (s t : CrewState) (w : ℕ) (b : Bool) → t ≡ with_ends (ends_below s.rows item w) s → takes_part s.rows w ≡ b →
-    (if b then with_ends (runs_at w item) t else t) ≡ with_ends (ends_below s.rows item (w + 1)) s
-ends-more item s t w true is takes = ap (with_ends (runs_at w item)) is ∙
+    (if b then with_ends (is_item_at w item) t else t) ≡ with_ends (ends_below s.rows item (w + 1)) s
+ends-more item s t w true is takes = ap (with_ends (is_item_at w item)) is ∙
     ap (λ (xs : List Instance). record { rows = s.rows; instances = xs; reads = s.reads }) (ends-next s.rows item w takes s.instances)
 ends-more item s t w false is rests = is ∙
     ap (λ (xs : List Instance). record { rows = s.rows; instances = xs; reads = s.reads }) (ends-over s.rows item w rests s.instances)
 
 pub ends-if : (item : Item) (s t : CrewState) (w : ℕ) → t ≡ with_ends (ends_below s.rows item w) s →
-    (if takes_part t.rows w then with_ends (runs_at w item) t else t) ≡ with_ends (ends_below s.rows item (w + 1)) s
+    (if takes_part t.rows w then with_ends (is_item_at w item) t else t) ≡ with_ends (ends_below s.rows item (w + 1)) s
 ends-if item s t w is = ends-more item s t w (takes_part t.rows w) is (sym (ap (λ (c : CrewState). takes_part c.rows w) is))
 
 -- no worker takes part that isn't there

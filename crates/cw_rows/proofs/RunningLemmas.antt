@@ -9,10 +9,12 @@ use Rattle.cw_config.specs.declared.records.ConfigRecord.{ConfigRecord}
 use Rattle.cw_model.specs.declared.row.Row.{Row}
 use Rattle.cw_model.specs.declared.instance.Instance.{Instance}
 use Rattle.cw_model.specs.Lookups.{is_at, no_instance}
-use Rattle.cw_rows.specs.Crew.{IsCrew, change_at, runs_at, numbers_at}
+use Rattle.cw_rows.specs.Crew.{IsCrew, change_at, numbers_at}
 use Rattle.cw_rows.specs.Statuses.{reporting}
 use Rattle.cw_rows.proofs.Lists.{each-map, map-none}
 use Rattle.cw_rows.proofs.Places.{changes-places, reads-places, places-map}
+use Rattle.cw_model.specs.EventsReports.{is_item_at}
+use Rattle.cw_data.proofs.Lists.{find-filter}
 
 -- ---- the first that passes two tests
 
@@ -20,10 +22,6 @@ find-here : {A : Type 0} (b : Bool) (second : A → Bool) (x : A) (xs : List A) 
     find second (cond b (x ∷ xs) xs) ≡ cond (b && second x) (Some x) rest
 find-here {A} true second x xs rest is = ap (λ (r : Option A). cond (second x) (Some x) r) is
 find-here false second x xs rest is = is
-
-pub find-filter : {A : Type 0} (test second : A → Bool) (xs : List A) → find second (filter test xs) ≡ find (λ x. test x && second x) xs
-find-filter test second [] = refl
-find-filter test second (x ∷ xs) = find-here (test x) second x (filter test xs) (find (λ x. test x && second x) xs) (find-filter test second xs)
 
 none-here : {A : Type 0} (b : Bool) (x : A) (rest : Option A) → cond b (Some x) rest ≡ None → (b ≡ false) × (rest ≡ None)
 none-here true x rest is = absurd (cc)
@@ -43,7 +41,7 @@ finds-any test (x ∷ xs) any none =
 -- ---- what a worker runs
 
 pub runs-first : (w : ℕ) (item : Item) (instances : List Instance) →
-    find (λ i. same_item i.item item) (map (λ n. get_or instances n no_instance) (numbers_at w instances)) ≡ find (runs_at w item) instances
+    find (λ i. same_item i.item item) (map (λ n. get_or instances n no_instance) (numbers_at w instances)) ≡ find (is_item_at w item) instances
 runs-first w item instances =
     ap (λ (xs : List Instance). find (λ i. same_item i.item item) xs)
     (reads-places (is_at w) (λ i. i) no_instance [] instances ∙ map-none (λ i. i) (filter (is_at w) instances) (λ x. refl)) ∙
@@ -51,7 +49,7 @@ runs-first w item instances =
 
 pub reports-of : (w : ℕ) (item : Item) (state : State) (instances : List Instance) →
     fold (change_at (λ i. same_item i.item item) (reporting state) no_instance) instances (numbers_at w instances) ≡
-    map (λ i. if runs_at w item i then reporting state i else i) instances
+    map (λ i. if is_item_at w item i then reporting state i else i) instances
 reports-of w item state instances = changes-places (is_at w) (λ i. same_item i.item item) (reporting state) no_instance [] instances
 
 still-at : (w : ℕ) (state : State) (x : Instance) (b : Bool) → is_at w (if b then reporting state x else x) ≡ is_at w x
@@ -63,15 +61,15 @@ still-worker state x true = refl
 still-worker state x false = refl
 
 pub crew-reports : (rows : List Row) (instances : List Instance) (reads : List (List ConfigRecord)) (runs : List (List ℕ)) (w : ℕ) (item : Item)
-    (state : State) → IsCrew rows instances reads runs → IsCrew rows (map (λ i. if runs_at w item i then reporting state i else i) instances) reads runs
+    (state : State) → IsCrew rows instances reads runs → IsCrew rows (map (λ i. if is_item_at w item i then reporting state i else i) instances) reads runs
 crew-reports rows instances reads runs w item state crew = record {
   few = crew.few;
   reads_each = crew.reads_each;
   runs_each = crew.runs_each;
-  at_worker = each-map (λ i. i.worker < length rows) (λ i. i.worker < length rows) (λ i. if runs_at w item i then reporting state i else i) instances
-      (λ x below. subst (λ (v : ℕ). v < length rows) (sym (still-worker state x (runs_at w item x))) below) crew.at_worker;
+  at_worker = each-map (λ i. i.worker < length rows) (λ i. i.worker < length rows) (λ i. if is_item_at w item i then reporting state i else i) instances
+      (λ x below. subst (λ (v : ℕ). v < length rows) (sym (still-worker state x (is_item_at w item x))) below) crew.at_worker;
   numbers = λ v within. crew.numbers v within ∙
-      sym (places-map (is_at v) (λ i. if runs_at w item i then reporting state i else i) 0 instances (λ x. still-at v state x (runs_at w item x)));
+      sym (places-map (is_at v) (λ i. if is_item_at w item i then reporting state i else i) 0 instances (λ x. still-at v state x (is_item_at w item x)));
 }
 
 -- ---- the first of some numbers

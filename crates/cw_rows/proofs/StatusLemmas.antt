@@ -1,5 +1,5 @@
 -- A worker reports a state: the halves of the event, and what is kept of the statuses.
-use Rattle.std.proofs.Common.{◌≡◌, ◌≢◌, ◌≤◌, ◌<◌, ◌&&◌, ℕ, Bool, true, false, List, [], ◌∷◌, ◌++◌, length, map, get_or, Option, None, Ok, Err, if◌then◌else◌, refl, sym, ◌∙◌, ap, subst}
+use Rattle.std.proofs.Common.{◌≡◌, ◌≢◌, ◌≤◌, ◌<◌, ℕ, Bool, true, false, List, [], ◌∷◌, ◌++◌, length, get_or, Option, None, Ok, Err, if◌then◌else◌, refl, sym, ◌∙◌, ap, subst}
 use Rattle.cw_types.specs.declared.ids.Item.{Item}
 use Rattle.cw_types.specs.declared.logs.DiskName.{DiskName}
 use Rattle.cw_types.specs.declared.logs.LogName.TheVariants.{Status}
@@ -27,28 +27,14 @@ use Rattle.cw_topics.specs.Statuses.{HasNoRoom, record_in}
 use Rattle.cw_rows.specs.Statuses.{status_in, reported, with_reports}
 use Rattle.cw_rows.specs.Writes.{IsDue, Readies, Refuses, Puts}
 use Rattle.cw_rows.proofs.Due.{passes, refuses, open-alive, by-worker, refuses-same}
+use Rattle.std.proofs.lemmas.Bool.{and_from, and_right}
+use Rattle.cw_rows.proofs.Lists.{if-true, map-push}
 
 -- ---- the event by its test
-
-if-true : {A : Type 0} (b : Bool) (x y : A) → b ≡ true → (if b then x else y) ≡ x
-if-true true x y is = refl
-if-true false x y is = absurd (cc)
 
 if-false : {A : Type 0} (b : Bool) (x y : A) → b ≡ false → (if b then x else y) ≡ y
 if-false true x y is = absurd (cc)
 if-false false x y is = refl
-
-both : (a b : Bool) → a ≡ true → b ≡ true → (a && b) ≡ true
-both true b is also = also
-both false b is also = is
-
-not-second : (a b : Bool) → b ≡ false → (a && b) ≡ false
-not-second true b is = is
-not-second false b is = refl
-
-map-push : {A B : Type 0} (f : A → B) (xs : List A) (x : A) → map f (xs ++ x ∷ []) ≡ map f xs ++ f x ∷ []
-map-push f [] x = refl
-map-push {A} {B} f (y ∷ xs) x = ap (λ (l : List B). f y ∷ l) (map-push f xs x)
 
 module _ (w : ℕ) (item : Item) where
   -- what is done where the worker may report
@@ -65,7 +51,7 @@ module _ (w : ℕ) (item : Item) where
       has_room (status_length s) (frame_of (status_body (frame ∷ []))) ≡ true →
       put_status w item s ≡ (Ok tt, reports w item frame.status.value.state (with_status frame s))
   status-put s frame passed same offset room = status-row s frame passed same ∙
-      if-true (fits_status frame s) _ _ (both (is_offset frame.status.offset) (has_room (status_length s) (frame_of (status_body (frame ∷ [])))) offset room)
+      if-true (fits_status frame s) _ _ (and_from (is_offset frame.status.offset) (has_room (status_length s) (frame_of (status_body (frame ∷ [])))) offset room)
 
   -- it is to write the frame
   status-due : (s : Cluster) (frame : StampedStatus) → worker_test w s ≡ Ok tt → frame ≡ reported w item s → is_offset frame.status.offset ≡ true →
@@ -74,7 +60,7 @@ module _ (w : ℕ) (item : Item) where
     some = some;
     alive = open-alive s.closed _ passed;
     full = λ none. status-row s frame passed same ∙
-        if-false (fits_status frame s) _ _ (not-second (is_offset frame.status.offset) (has_room (status_length s) (frame_of (status_body (frame ∷ [])))) none);
+        if-false (fits_status frame s) _ _ (and_right (is_offset frame.status.offset) (has_room (status_length s) (frame_of (status_body (frame ∷ [])))) none);
     room = λ room. record {
       answer = tt;
       done = ap (λ (a : Answer (Unit {0})). a.0) (status-put s frame passed same offset room);

@@ -3,7 +3,6 @@ use Rattle.std.specs.Prelude.{◌≡◌, ℕ, ◌<◌, ◌≤◌, ◌+◌, Bool,
 use Rattle.std.specs.Prelude.{slice_index_or, slice_set, drop, map, if◌then◌else◌}
 use Rattle.std.specs.List.{AllByRecursion}
 use Rattle.cw_types.specs.declared.ids.Item.{Item}
-use Rattle.cw_assign.specs.Items.{same_item}
 use Rattle.cw_model.specs.EventsItems.{runs}
 use Rattle.cw_config.specs.declared.records.ConfigRecord.{ConfigRecord}
 use Rattle.cw_model.specs.declared.row.Row.{Row}
@@ -53,10 +52,6 @@ with_ends test s = record s { instances = map (λ i. if test i then in_phase End
 -- whether a worker takes part: it wasn't killed and isn't deaf
 abbrev pub takes_part : List Row → ℕ → Bool
 takes_part rows w = (slice_index_or rows w no_row).live && (slice_index_or rows w no_row).hearing
-
--- whether an instance is what a worker runs of an item
-abbrev pub runs_at : ℕ → Item → Instance → Bool
-runs_at w item i = is_at w i && same_item i.item item
 
 -- whether an instance is what runs of an item at a worker below a number that takes part
 abbrev pub ends_below : List Row → Item → ℕ → Instance → Bool

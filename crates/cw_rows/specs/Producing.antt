@@ -19,11 +19,7 @@ use Rattle.cw_model.specs.Bodies.{frame_of}
 use Rattle.cw_model.specs.Updates.{appends_data, epoch_in, tid_of}
 use Rattle.cw_model.specs.EventsSources.{is_bad_cut}
 use Rattle.cw_rows.specs.Kept.{instance_test}
-
--- a test behind another
-abbrev pub and_test : Result (Unit {0}) WorldFault → Result (Unit {0}) WorldFault → Result (Unit {0}) WorldFault
-and_test (Ok passed) test = test
-and_test (Err fault) test = Err fault
+use Rattle.std.specs.Result.{result_and}
 
 -- whether a task's epoch is its producer's last (KIP-98)
 abbrev pub producer_test : ℕ → Cluster → Result (Unit {0}) WorldFault
@@ -33,7 +29,7 @@ producer_test i s = let own = epoch_in (instance_of i s).epoch in
 
 -- whether a task may write
 abbrev pub writing_test : ℕ → Cluster → Result (Unit {0}) WorldFault
-writing_test i s = and_test (instance_test i s) (producer_test i s)
+writing_test i s = result_and (instance_test i s) (producer_test i s)
 
 -- whether a task may take a cut
 abbrev pub cut_test : Files → Cut → Instance → Result (Unit {0}) WorldFault
@@ -41,7 +37,7 @@ cut_test feeds cut i = if is_bad_cut feeds i cut then Err (BadCut cut.from cut.t
 
 -- whether a task may write the records of a cut
 abbrev pub producing_test : Setting → ℕ → Cut → Cluster → Result (Unit {0}) WorldFault
-producing_test setting i cut s = and_test (writing_test i s) (cut_test setting.feeds cut (instance_of i s))
+producing_test setting i cut s = result_and (writing_test i s) (cut_test setting.feeds cut (instance_of i s))
 
 -- why a batch isn't written that is longer than any log may be: its log is full
 pub record IsTooLong (batch : Batch) (bytes : ℕ) (why : WorldFault) : Type 0 where

@@ -7,8 +7,8 @@ use Rattle.cw_config.specs.declared.records.ConfigRecord.{ConfigRecord}
 use Rattle.cw_model.specs.declared.instance.Instance.{Instance}
 use Rattle.cw_model.specs.declared.row.Row.{Row}
 use Rattle.cw_model.specs.State.{Cluster, StampedStatus}
-use Rattle.cw_model.specs.EventsReports.{state_of, status_of, status_record, trace_text, instance_at}
-use Rattle.cw_rows.specs.Crew.{CrewState, runs_at}
+use Rattle.cw_model.specs.EventsReports.{state_of, status_of, status_record, trace_text, instance_at, is_item_at}
+use Rattle.cw_rows.specs.Crew.{CrewState}
 
 -- the status of an instance, by what its worker has read of the config log
 abbrev pub status_in : ℕ → Row → List ConfigRecord → Instance → StatusValue
@@ -30,4 +30,4 @@ reporting state i = record i { reported = Some state }
 -- a worker's instances of an item count as reported
 abbrev pub with_reports : ℕ → Item → State → CrewState → CrewState
 with_reports w item state s =
-    record s { instances = map (λ i. if runs_at w item i then reporting state i else i) s.instances }
+    record s { instances = map (λ i. if is_item_at w item i then reporting state i else i) s.instances }

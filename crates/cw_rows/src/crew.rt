@@ -15,6 +15,7 @@ ghost use Rattle.cw_model.specs.EventsWorkers.{killed, most_workers};
 ghost use Rattle.cw_model.specs.Phases.{is_ended};
 ghost use Rattle.cw_model.specs.Updates.{in_phase, without_lead};
 ghost use Rattle.cw_rows.specs.Crew.{change_at};
+ghost use Rattle.cw_model.specs.EventsReports.{is_item_at};
 
 use crate::numbers::Numbers;
 use cw_assign::ItemSet;
@@ -48,7 +49,7 @@ impl Model for Crew {
 }
 
 impl Crew {
-    ghost use Rattle.cw_rows.specs.Crew.{CrewState, with_row, with_instance, with_ends, with_read, ends_below, runs_at};
+    ghost use Rattle.cw_rows.specs.Crew.{CrewState, with_row, with_instance, with_ends, with_read, ends_below};
     ghost use Rattle.cw_rows.specs.Crew.{takes_part};
     ghost use Rattle.cw_model.specs.EventsItems.{runs};
 
@@ -307,7 +308,7 @@ impl Crew {
     fn end_item_if(&mut self, w: u32, item: &Item)
         requires { w < length self.old.rows }
         ensures { self.new ≡
-            (if takes_part self.old.rows w then with_ends (runs_at w item.now) self.old else self.old) }
+            (if takes_part self.old.rows w then with_ends (is_item_at w item.now) self.old else self.old) }
     {
         if self.takes_part(w) {
             self.end_item_at(w, item);
@@ -325,7 +326,7 @@ impl Crew {
     // What a worker runs of an item ends.
     fn end_item_at(&mut self, w: u32, item: &Item)
         requires { w < length self.old.rows }
-        ensures { self.new ≡ with_ends (runs_at w item.now) self.old }
+        ensures { self.new ≡ with_ends (is_item_at w item.now) self.old }
     {
         end_among(&mut self.instances, self.runs[w as usize].as_slice(), item);
         keep_running(&mut self.runs, w as usize, self.instances.as_slice());

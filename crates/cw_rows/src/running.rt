@@ -3,8 +3,9 @@ ghost use Rattle.std.specs.Prelude.{◌≡◌, ◌<◌, length, map, Some, slice
 ghost use Rattle.std.specs.List.{find, fold, AllByRecursion};
 ghost use Rattle.cw_assign.specs.Items.{same_item};
 ghost use Rattle.cw_model.specs.Lookups.{no_instance};
-ghost use Rattle.cw_rows.specs.Crew.{change_at, runs_at, numbers_at};
+ghost use Rattle.cw_rows.specs.Crew.{change_at, numbers_at};
 ghost use Rattle.cw_rows.specs.Statuses.{reporting, with_reports};
+ghost use Rattle.cw_model.specs.EventsReports.{is_item_at};
 
 use crate::crew::{Crew, is_of};
 use cw_keys::State;
@@ -23,7 +24,7 @@ impl Crew {
     /// What a worker runs of an item: the first such instance.
     pub fn running(&self, w: u32, item: &Item) -> Option<&Instance>
         requires { w < length self.now.rows }
-        ensures { option_copied result ≡ find (runs_at w item.now) self.now.instances }
+        ensures { option_copied result ≡ find (is_item_at w item.now) self.now.instances }
     {
         first_of(&self.instances, self.runs[w as usize].as_slice(), item)
     }

@@ -1,17 +1,19 @@
 -- What a call that would succeed sets of offsets may be set: parts of the stopped connector, none twice, each with an
 -- offset that fits.
-use Rattle.std.proofs.Common.{◌≡◌, ℕ, ◌==◌, ◌<◌, ◌^◌, ◌∷◌, [], ◌&&◌, ◌||◌, Bool, true, false, not, cond, List, Option, Some, None, IsSome, is_some, nat_le, nat_lt, length, map, option_map, option_and_then, unwrap_or, bytes_eq, codes, if◌then◌else◌, refl, sym, subst, ap, ◌∙◌, arith}
-use Rattle.std.specs.List.{AllByRecursion, IsDistinct, filter, filter_map, flat_map, fold, list_any}
+use Rattle.std.proofs.Common.{◌≡◌, ℕ, ◌==◌, ◌<◌, ◌^◌, ◌∷◌, [], ◌&&◌, Bool, true, false, not, cond, List, Option, Some, None, IsSome, is_some, nat_le, nat_lt, length, map, option_map, option_and_then, unwrap_or, codes, if◌then◌else◌, refl, sym, subst, ap, ◌∙◌, arith}
+use Rattle.std.specs.List.{AllByRecursion, IsDistinct, filter, filter_map, flat_map, fold}
 use Rattle.std.specs.List.Sorted.{IsStrictlySortedBy}
 use Rattle.std.specs.Option.{option_map_or}
 use Rattle.std.specs.BTreeSet.{insert_key}
 use Rattle.std.specs.Cmp.{IsTotalOrder, on_total}
 use Rattle.std.specs.Cmp.Lexicographic.{nat_list_cmp_total}
-use Rattle.std.specs.Ordering.{match_ordering, ordering_reverse}
+use Rattle.std.specs.Ordering.{match_ordering}
 use Rattle.std.specs.declared.cmp.Ordering.{Ordering}
 use Rattle.std.specs.declared.cmp.Ordering.TheVariants.{Less, Equal, Greater}
 use Rattle.std.proofs.lemmas.List.Elements.{All-from_recursion}
-use Rattle.std.proofs.lemmas.Slice.Eq.{bytes_eq-Decides}
+use Rattle.cw_laws.proofs.TaskParts.{then_some}
+use Rattle.cw_laws.proofs.CallValues.{unless-done}
+use Rattle.cw_laws.proofs.CallOffsets.{entries-parts, is-own, rising-distinct, removed-parts, once-distinct}
 use borrow.Author.Tests.{ltb-true}
 use Rattle.serde_json.specs.Data.{Data, null, boolean, number, string, array, object}
 use Rattle.serde_json.specs.Find.{get, as_str, as_array}
@@ -19,19 +21,13 @@ use Rattle.serde_json.specs.Written.{compact_text}
 use Rattle.cw_types.specs.Name.{IsName, name_fault, name_of, unless_fault}
 use Rattle.cw_types.specs.declared.name.NameFault.{NameFault}
 use Rattle.cw_types.specs.Same.{same_part, connector_of}
-use Rattle.cw_types.proofs.SameLemmas.{same_part-Decides}
 use Rattle.cw_types.specs.declared.ids.PartKey.{PartKey}
 use Rattle.cw_types.specs.declared.ids.PartKey.TheVariants.{File, Seq, Sink}
 use Rattle.cw_bytes.specs.Spelling.{IsPart}
 use Rattle.cw_keys.specs.Counts.{u64_at, below_32, count_at}
 use Rattle.cw_keys.specs.Offsets.{offset_name}
 use Rattle.cw_keys.specs.Parts.{name_at, first_some}
-use Rattle.cw_bytes.specs.Frames.{joined}
-use Rattle.cw_bytes.specs.Spelling.{IsSpan}
-use Rattle.cw_types.specs.declared.ids.Span.{Span}
-use Rattle.cw_txn.specs.Body.{IsEntry, AreEntries, IsSet, IsOffset}
-use Rattle.cw_txn.specs.declared.entry.Entry.{Entry}
-use Rattle.cw_txn.specs.declared.entry.Entry.TheVariants.{Bump, Commit, Set}
+use Rattle.cw_txn.specs.Body.{IsEntry, IsSet, IsOffset}
 use Rattle.cw_route.specs.HeldNames.{HoldsName}
 use Rattle.cw_route.specs.declared.call.Call.{Call}
 use Rattle.cw_route.specs.declared.call.Call.TheVariants.{Refused, Connectors, Create, Info, Delete, Config, PutConfig, Status, Tasks, TaskStatus, Pause, Resume, Stop, Restart, RestartTask, Offsets, Alter, Reset, Plugins}
@@ -43,7 +39,7 @@ use Rattle.cw_json.specs.Reading.{reading}
 use Rattle.cw_rest.specs.Offsets.{Alteration, alteration_of, elements_of, part_in, feed_in, sequence_in, topic_in, offset_in, set_by, sets_by, each_of, with_each, has_repeat, is_of_type, is_part_of, has_offset, partition_of, partition_cmp, parts_in, is_list_of_offsets, alterations_by, alterations_in}
 use Rattle.cw_laws.proofs.Disks.{and-first, and-second}
 use Rattle.cw_types.proofs.Rising.{rising-fold, rising-none}
-use Rattle.cw_laws.proofs.Lists.{each-weaker, each-map, each-append}
+use Rattle.cw_laws.proofs.Lists.{each-weaker}
 use Rattle.cw_keys.specs.declared.target.Target.{Target}
 use Rattle.cw_keys.specs.declared.target.Target.TheVariants.{Started, Paused, Stopped}
 use Rattle.cw_config.specs.View.{target_of}
@@ -56,7 +52,6 @@ use Rattle.cw_model.specs.State.{Cluster}
 use Rattle.cw_model.specs.Lookups.{row_of}
 use Rattle.cw_model.specs.EventsLeading.{MaySetOffsets}
 use Rattle.cw_model.specs.Journal.{is_success}
-use Rattle.cw_run.proofs.Writing.{nothing-lacks}
 
 -- ---- what is read of an option
 
@@ -64,10 +59,6 @@ use Rattle.cw_run.proofs.Writing.{nothing-lacks}
 pub made : {A B : Type 0} (f : A → B) (o : Option A) (y : B) → option_map f o ≡ Some y → (x : A) × (o ≡ Some x) × (f x ≡ y)
 made f None y is = absurd (cc)
 made f (Some x) y is = (x, refl, cc)
-
-pub then-made : {A B : Type 0} (f : A → Option B) (o : Option A) (y : B) → option_and_then f o ≡ Some y → (x : A) × (o ≡ Some x) × (f x ≡ Some y)
-then-made f None y is = absurd (cc)
-then-made f (Some x) y is = (x, refl, is)
 
 pub tested : {A : Type 0} (test : A → Bool) (x y : A) → where_it test x ≡ Some y → (test x ≡ true) × (x ≡ y)
 tested test x y is = at (test x) refl is where
@@ -84,10 +75,10 @@ name-of bytes name is = at (name_fault bytes) refl is where
   at (Some fault) bad is = absurd (cc)
 
 name-at : (key : List ℕ) (d : Data) (name : List ℕ) → name_at key d ≡ Some name → IsName name
-name-at key d name is = let it = then-made name_of (option_and_then as_str (get key d)) name is in name-of it.0 name it.2
+name-at key d name is = let it = then_some name_of (option_and_then as_str (get key d)) name is in name-of it.0 name it.2
 
 count-fits : (key : List ℕ) (d : Data) (n : ℕ) → count_at key d ≡ Some n → n < 2 ^ 32
-count-fits key d n is = let it = then-made below_32 (u64_at key d) n is in at it.0 (nat_lt it.0 (2 ^ 32)) refl it.2 where
+count-fits key d n is = let it = then_some below_32 (u64_at key d) n is in at it.0 (nat_lt it.0 (2 ^ 32)) refl it.2 where
   at : (m : ℕ) (b : Bool) → nat_lt m (2 ^ 32) ≡ b → (if b then Some m else None) ≡ Some n → n < 2 ^ 32
   at m true below is = let same : m ≡ n = cc in subst (λ k. k < 2 ^ 32) same (ltb-true m (2 ^ 32) below)
   at m false above is = absurd (cc)
@@ -101,13 +92,13 @@ module _ (name : List ℕ) (named : IsName name) where
   part-own : (partition : Data) (part : PartKey) → part_in name partition ≡ Some part → IsOwn name part
   part-own partition part is = at (feed_in partition) (sequence_in partition) (topic_in partition) refl refl refl is where
     feed-named : (feed : List ℕ) → feed_in partition ≡ Some feed → IsName feed
-    feed-named feed is = let it = then-made (name_at (codes "filename")) (where_it (has_members 1) partition) feed is in name-at (codes "filename") it.0 feed it.2
+    feed-named feed is = let it = then_some (name_at (codes "filename")) (where_it (has_members 1) partition) feed is in name-at (codes "filename") it.0 feed it.2
 
     sequence-fits : (n : ℕ) → sequence_in partition ≡ Some n → n < 2 ^ 32
-    sequence-fits n is = let it = then-made (count_at (codes "sequence")) (where_it (has_members 1) partition) n is in count-fits (codes "sequence") it.0 n it.2
+    sequence-fits n is = let it = then_some (count_at (codes "sequence")) (where_it (has_members 1) partition) n is in count-fits (codes "sequence") it.0 n it.2
 
     topic-named : (topic : List ℕ) → topic_in partition ≡ Some topic → IsName topic
-    topic-named topic is = let it = then-made (name_at (codes "kafka_topic")) (where_it (λ d. has_members 2 d && option_map_or (λ n. n == 0) (u64_at (codes "kafka_partition") d) false) partition) topic is in name-at (codes "kafka_topic") it.0 topic it.2
+    topic-named topic is = let it = then_some (name_at (codes "kafka_topic")) (where_it (λ d. has_members 2 d && option_map_or (λ n. n == 0) (u64_at (codes "kafka_partition") d) false) partition) topic is in name-at (codes "kafka_topic") it.0 topic it.2
 
     at : (f : Option (List ℕ)) (q : Option ℕ) (t : Option (List ℕ)) → feed_in partition ≡ f → sequence_in partition ≡ q → topic_in partition ≡ t →
         first_some (option_map (File name) f) (first_some (option_map (Seq name) q) (option_map (Sink name) t)) ≡ Some part → IsOwn name part
@@ -124,7 +115,7 @@ module _ (name : List ℕ) (named : IsName name) where
   offset-fits part (array items) to is = absurd (cc)
   offset-fits part (object members) to is =
       let one = made Some (option_and_then (where_it (λ n. nat_lt n (2 ^ 48))) (option_and_then (u64_at (offset_name part)) (where_it (has_members 1) (object members)))) to is in
-      let two = then-made (where_it (λ n. nat_lt n (2 ^ 48))) (option_and_then (u64_at (offset_name part)) (where_it (has_members 1) (object members))) one.0 one.1 in
+      let two = then_some (where_it (λ n. nat_lt n (2 ^ 48))) (option_and_then (u64_at (offset_name part)) (where_it (has_members 1) (object members))) one.0 one.1 in
       let three = tested (λ n. nat_lt n (2 ^ 48)) two.0 one.0 two.2 in
       let below : two.0 < 2 ^ 48 = ltb-true two.0 (2 ^ 48) three.0 in
       subst IsOffset one.2 (omega (arith, below, three.1))
@@ -137,8 +128,8 @@ module _ (name : List ℕ) (named : IsName name) where
 
   set-by : (is_source : Bool) (alteration : Alteration) (set : SetOffset) → set_by is_source name alteration ≡ Some set → IsSetBy alteration set
   set-by is_source alteration set is =
-      let one = then-made (λ part. option_map (λ to. record { part = part; to = to }) (offset_in part alteration.offset)) (option_and_then (where_it (is_of_type is_source)) (part_in name alteration.partition)) set is in
-      let two = then-made (where_it (is_of_type is_source)) (part_in name alteration.partition) one.0 one.1 in
+      let one = then_some (λ part. option_map (λ to. record { part = part; to = to }) (offset_in part alteration.offset)) (option_and_then (where_it (is_of_type is_source)) (part_in name alteration.partition)) set is in
+      let two = then_some (where_it (is_of_type is_source)) (part_in name alteration.partition) one.0 one.1 in
       let three = tested (is_of_type is_source) two.0 one.0 two.2 in
       let four = made (λ (to : Option ℕ). record { part = one.0; to = to }) (offset_in one.0 alteration.offset) set one.2 in
       let there : part_in name alteration.partition ≡ Some one.0 = two.1 ∙ ap (λ (p : PartKey). Some p) three.1 in
@@ -167,50 +158,11 @@ module _ (name : List ℕ) (named : IsName name) where
 
 -- ---- parts that are named once
 
-none-same : (part : PartKey) (parts : List PartKey) → list_any (same_part part) parts ≡ false → AllByRecursion (λ y. same_part part y ≡ false) parts
-none-same part [] none = tt
-none-same part (p ∷ parts) none = at (same_part part p) refl none (none-same part parts) where
-  at : (b : Bool) → same_part part p ≡ b → (b || list_any (same_part part) parts) ≡ false → (list_any (same_part part) parts ≡ false → AllByRecursion (λ y. same_part part y ≡ false) parts) →
-      AllByRecursion (λ y. same_part part y ≡ false) (p ∷ parts)
-  at true same none later = absurd (cc)
-  at false other none later = (other, later none)
-
-distinct : (parts : List PartKey) → has_repeat parts ≡ false → IsDistinct same_part parts
-unfolding IsDistinct
-distinct [] none = tt
-distinct (part ∷ parts) none = at (list_any (same_part part) parts) refl none (distinct parts) where
-  at : (b : Bool) → list_any (same_part part) parts ≡ b → (if b then true else has_repeat parts) ≡ false → (has_repeat parts ≡ false → IsDistinct same_part parts) → IsDistinct same_part (part ∷ parts)
-  at true some none later = absurd (cc)
-  at false other none later = (none-same part parts other, later none)
-
 -- ---- the parts that have offsets
 
 -- the order of partitions is one of texts
 partition_total : IsTotalOrder partition_cmp
 partition_total = on_total (λ part. compact_text (partition_of part)) nat_list_cmp_total
-
--- a part isn't below itself
-never-below : (part : PartKey) → partition_cmp part part ≡ Less → ⊥
-never-below part is = at (partition_cmp part part) is (partition_total.antisymm part part) where
-  at : (o : Ordering) → o ≡ Less → o ≡ ordering_reverse o → ⊥
-  at Less is turned = cc
-  at Equal is turned = cc
-  at Greater is turned = cc
-
--- parts that rise are distinct
-apart-from : (part : PartKey) (parts : List PartKey) → AllByRecursion (λ y. partition_cmp part y ≡ Less) parts → AllByRecursion (λ y. same_part part y ≡ false) parts
-apart-from part [] below = tt
-apart-from part (p ∷ parts) below = (at (same_part part p) refl, apart-from part parts below.1) where
-  at : (b : Bool) → same_part part p ≡ b → b ≡ false
-  at false other = refl
-  at true same =
-      let equal : part ≡ p = (same_part-Decides part p).0 same in
-      absurd (never-below part (subst (λ q. partition_cmp part q ≡ Less) (sym equal) below.0))
-
-rising-distinct : (parts : List PartKey) → IsStrictlySortedBy partition_cmp parts → IsDistinct same_part parts
-unfolding IsDistinct IsStrictlySortedBy
-rising-distinct [] rising = tt
-rising-distinct (part ∷ parts) rising = (apart-from part parts rising.0, rising-distinct parts rising.1)
 
 -- what is so of each part is so of those that are put in order
 insert-each : (P : PartKey → Type 0) (parts : List PartKey) (part : PartKey) → P part → AllByRecursion P parts → AllByRecursion P (insert_key partition_cmp parts part)
@@ -232,35 +184,10 @@ filter-each P test (p ∷ parts) each = at (test p) refl (filter-each P test par
   at true passes rest = ((each.0, passes), rest)
   at false fails rest = rest
 
--- a connector's own part
-own-part : (name : List ℕ) (part : PartKey) → is_part_of name part ≡ true → connector_of part ≡ Some name
-own-part name part is = at (connector_of part) is where
-  at : (o : Option (List ℕ)) → option_map_or (λ own. bytes_eq own name) o false ≡ true → o ≡ Some name
-  at None is = absurd (let never : false ≡ true = is in cc)
-  at (Some own) is = ap (λ (n : List ℕ). Some n) ((bytes_eq-Decides own name).0 is)
-
--- the parts of entries that are written fit
-entry-parts : (entry : Entry) → IsEntry entry → AllByRecursion IsPart (parts_in entry)
-entry-parts (Bump tid) is = tt
-entry-parts (Commit tag generation spans) is = each-map IsSpan IsPart (λ (span : Span). span.part) spans (λ span it. it.0) is.2.1
-entry-parts (Set tid epoch list) is = each-map IsSet IsPart (λ (set : SetOffset). set.part) list (λ set it. it.0) is.2.1
-
-all-parts : (entries : List Entry) → AllByRecursion IsEntry entries → AllByRecursion IsPart (flat_map parts_in entries)
-all-parts [] each = tt
-all-parts (entry ∷ entries) each = each-append IsPart (parts_in entry) (flat_map parts_in entries) (entry-parts entry each.0) (all-parts entries each.1)
-
-pub joined-entries : (frames : List (List Entry)) → AllByRecursion AreEntries frames → AllByRecursion IsEntry (joined frames)
-joined-entries [] each = tt
-joined-entries (frame ∷ frames) each = each-append IsEntry frame (joined frames) each.0.list.1 (joined-entries frames each.1)
-
 -- a part that is the connector's and fits may be removed
 removed-each : (name : List ℕ) (parts : List PartKey) → AllByRecursion (IsOwn name) parts → AllByRecursion (λ (set : SetOffset). IsOwn name set.part × IsOffset set.to) (removals parts)
 removed-each name [] each = tt
 removed-each name (part ∷ parts) each = ((each.0, tt), removed-each name parts each.1)
-
-removed-parts : (parts : List PartKey) → map (λ (set : SetOffset). set.part) (removals parts) ≡ parts
-removed-parts [] = refl
-removed-parts (part ∷ parts) = ap (λ (l : List PartKey). part ∷ l) (removed-parts parts)
 
 -- ---- the offsets that a call alters
 
@@ -282,8 +209,8 @@ module _ (leader : ℕ) (s : Cluster) (leads : IsSome (row_of leader s).lead) (s
   -- an offset may be modified where the call succeeds
   modified : (done : Reply) → is_success (if_stopped true seen name done) ≡ true → (target_of name seen.configs ≡ Stopped) × (is_success done ≡ true)
   modified done succeeds =
-      let one = nothing-lacks (is_connector name seen) (no_connector name) (unless (is_stopped (target_of name seen.configs)) not_stopped done) refl succeeds in
-      let two = nothing-lacks (is_stopped (target_of name seen.configs)) not_stopped done refl one.1 in
+      let one = unless-done (is_connector name seen) (no_connector name) (unless (is_stopped (target_of name seen.configs)) not_stopped done) refl succeeds in
+      let two = unless-done (is_stopped (target_of name seen.configs)) not_stopped done refl one.1 in
       (at (target_of name seen.configs) two.0, two.1) where
         at : (target : Target) → is_stopped target ≡ true → target ≡ Stopped
         at Started is = absurd (let never : false ≡ true = is in cc)
@@ -299,8 +226,8 @@ module _ (leader : ℕ) (s : Cluster) (leads : IsSome (row_of leader s).lead) (s
 
     apart : has_repeat (filter_map (λ (a : Alteration). part_in name a.partition) list) ≡ false
     apart =
-        let read = then-made (alterations_by name) (reading body) list is in
-        let found = then-made (where_it (is_list_of_offsets name)) (option_and_then (λ items. each_of alteration_of (elements_of items))
+        let read = then_some (alterations_by name) (reading body) list is in
+        let found = then_some (where_it (is_list_of_offsets name)) (option_and_then (λ items. each_of alteration_of (elements_of items))
         (option_and_then as_array (option_and_then (get (codes "offsets")) (where_it (has_members 1) read.0)))) list read.2 in
         let passes = tested (is_list_of_offsets name) found.0 list found.2 in
         let good : is_list_of_offsets name list ≡ true = subst (λ (l : List Alteration). is_list_of_offsets name l ≡ true) passes.1 passes.0 in
@@ -315,15 +242,15 @@ module _ (leader : ℕ) (s : Cluster) (leads : IsSome (row_of leader s).lead) (s
     at None none succeeds = absurd (let never : false ≡ true = succeeds in cc)
     at (Some sets) there succeeds =
         let set : AreSetBy name named list sets = sets-by name named (is_source (config_seen name seen)) list sets there in
-        stopped-may sets set.each (distinct (map (λ (set : SetOffset). set.part) sets) (subst (λ (l : List PartKey). has_repeat l ≡ false) set.parts apart)) once.0
+        stopped-may sets set.each (once-distinct (map (λ (set : SetOffset). set.part) sets) (subst (λ (l : List PartKey). has_repeat l ≡ false) set.parts apart)) once.0
 
   reset-may : AllByRecursion IsEntry seen.entries → is_success (reset_reply true seen name) ≡ true → MaySetOffsets leader name (removals (parts_seen name seen)) s
   reset-may written succeeds =
       let once = modified (replied 200 (message (codes "The offsets for this connector have been reset successfully"))) succeeds in
       let test : PartKey → Bool = has_offset (is_source (config_seen name seen)) name seen.entries in
-      let passed = filter-each IsPart test (flat_map parts_in seen.entries) (all-parts seen.entries written) in
+      let passed = filter-each IsPart test (flat_map parts_in seen.entries) (entries-parts seen.entries written) in
       let owned : AllByRecursion (IsOwn name) (filter test (flat_map parts_in seen.entries)) = each-weaker _ _ (filter test (flat_map parts_in seen.entries)) (λ part it. record {
-        own = own-part name part (and-first (is_part_of name part) (is_of_type (is_source (config_seen name seen)) part) (and-first _ _ it.1));
+        own = is-own name part (and-first (is_part_of name part) (is_of_type (is_source (config_seen name seen)) part) (and-first _ _ it.1));
         fits = it.0;
       }) passed in
       let parts : List PartKey = parts_seen name seen in

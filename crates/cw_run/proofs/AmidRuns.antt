@@ -23,8 +23,9 @@ use Rattle.cw_run.specs.Rules.{IsSaidAmid, IsLineAmid}
 use Rattle.cw_run.proofs.BodyTexts.{call-written}
 use Rattle.cw_run.proofs.LineRuns.{directive-runs, request-named}
 use Rattle.cw_run.proofs.Reaching.{stays, makes}
-use Rattle.cw_run.proofs.RequestRuns.{ready-leads, configs-may, sets-may}
+use Rattle.cw_run.proofs.RequestRuns.{configs-may, sets-may}
 use Rattle.cw_run.proofs.SettleRuns.{settled-runs}
+use Rattle.cw_laws.proofs.Proposed.{ready-leads}
 
 module _ (setting : Setting) (feeds : HaveNames setting) (s : Cluster) (f : AreFacts setting s) where
   written-run : (w leader : ℕ) (call : Call) → HoldsName call → IsSome (row_of leader s).lead → would_succeed setting w call s ≡ true → (deed : Deed) → deed_of call ≡ deed →

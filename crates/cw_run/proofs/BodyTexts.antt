@@ -1,6 +1,6 @@
 -- What a request's body asks for is text, and its keys rise: so it can be written.
-use Rattle.std.proofs.Common.{◌≡◌, ℕ, suc, ◌∷◌, ◌++◌, [], cond, pos, negsuc, Bool, true, false, List, Option, Some, None, Result, Ok, Err, IsUtf8, decimal, option_map, option_and_then, codes, if◌then◌else◌, refl, subst, ap, ◌∙◌, arith}
-use Rattle.std.specs.List.{AllByRecursion, filter}
+use Rattle.std.proofs.Common.{◌≡◌, ℕ, suc, ◌∷◌, [], pos, negsuc, Bool, true, false, List, Option, Some, None, Result, Ok, Err, IsUtf8, decimal, option_map, option_and_then, codes, if◌then◌else◌, refl, subst, ap, ◌∙◌, arith}
+use Rattle.std.specs.List.{AllByRecursion}
 use Rattle.std.specs.Option.{option_map_or}
 use Rattle.std.specs.Str.{is_utf8}
 use Rattle.std.specs.Ordering.{nat_cmp, is_lt, is_gt, match_ordering, ordering_reverse}
@@ -16,6 +16,7 @@ use Rattle.serde_json.specs.Data as values
 use Rattle.serde_json.specs.Data.{Num, Data, Members, no_members, member, put}
 use Rattle.serde_json.specs.Find.{get, get_member, as_str}
 use Rattle.serde_json.specs.Read.{number_of, of_json, of_items, of_members, read, max_depth}
+use Rattle.std.specs.Result.{result_ok}
 use Rattle.cw_json.specs.declared.fault.JsonFault.{JsonFault}
 use Rattle.cw_json.specs.Inserting.{below, above, with_value}
 use Rattle.cw_json.specs.Plain.{AreTexts}
@@ -25,7 +26,7 @@ use Rattle.cw_json.specs.Rising.{IsRising}
 use Rattle.cw_json.proofs.Inserting.{rising_with}
 use Rattle.cw_keys.proofs.Ascii.{name_utf8}
 use Rattle.cw_config.specs.View.{Properties}
-use Rattle.cw_rest.specs.Bodies.{has_members, where_it, unless_fault, may_be_named, named_config, config_in, Asked, asked_with, asked_by, asked_in}
+use Rattle.cw_rest.specs.Bodies.{has_members, where_it, may_be_named, named_config, config_in, Asked, asked_with, asked_by, asked_in}
 use Rattle.cw_route.specs.declared.call.Call.{Call}
 use Rattle.cw_route.specs.declared.call.Call.TheVariants.{Refused, Connectors, Create, Info, Delete, Config, PutConfig, Status, Tasks, TaskStatus, Pause, Resume, Stop, Restart, RestartTask, Offsets, Alter, Reset, Plugins}
 use Rattle.cw_route.specs.HeldNames.{HoldsName}
@@ -34,10 +35,12 @@ use Rattle.cw_keys.specs.declared.config_key.ConfigKey.{ConfigKey}
 use Rattle.cw_keys.specs.declared.config_value.ConfigValue.{ConfigValue}
 use Rattle.cw_rest.specs.Operations.{config_values}
 use Rattle.cw_laws.proofs.Reports.{decimal-utf8}
-use Rattle.cw_run.proofs.Altering.{made, then-made, tested}
+use Rattle.cw_run.proofs.Altering.{tested, made}
 use Rattle.cw_run.proofs.JsonStrings.{ascii-first}
 use Rattle.cw_run.proofs.JsonTexts.{IsJson, AreItems, AreMembers, json-read}
 use Rattle.cw_run.proofs.Writing.{CanBeWritten}
+use Rattle.cw_laws.proofs.TaskParts.{then_some}
+use Rattle.cw_laws.proofs.CallConfigs.{texts-kept, texts-append}
 
 -- ---- values whose keys rise
 
@@ -116,14 +119,14 @@ mutual
   items-data : (js : json.Items) → AreItems js → (ds : values.Items) → of_items js ≡ Some ds → AreData ds
   items-data json.no_items is ds e = let same : values.no_items ≡ ds = cc in subst AreData same tt
   items-data (json.item j js) is ds e =
-      let it = then-made (λ d. option_map (values.item d) (of_items js)) (of_json j) ds e in
+      let it = then_some (λ d. option_map (values.item d) (of_items js)) (of_json j) ds e in
       let more = made (values.item it.0) (of_items js) ds it.2 in
       subst AreData more.2 (json-data j is.0 it.0 it.1, items-data js is.1 more.0 more.1)
 
   members-data : (ms : json.Members) → AreMembers ms → (found : Members) → AreFields found → Rises found → (all : Members) → of_members ms found ≡ Some all → AreFields all × Rises all
   members-data json.no_members is found each rises all e = let same : found ≡ all = cc in (subst AreFields same each, subst Rises same rises)
   members-data (json.member k j ms) is found each rises all e =
-      let it = then-made (λ d. of_members ms (put k d found)) (of_json j) all e in
+      let it = then_some (λ d. of_members ms (put k d found)) (of_json j) all e in
       members-data ms is.2 (put k it.0 found) (put-fields k it.0 found is.0 (json-data j is.1 it.0 it.1) each) (put-rises k it.0 found rises) all it.2
 
 -- what is read of bytes
@@ -132,7 +135,7 @@ reading-data text d is = at (is_utf8 text) refl is where
   at : (b : Bool) → is_utf8 text ≡ b → (if b then read text else None) ≡ Some d → IsData d
   at false bad found = absurd (cc)
   at true good found =
-      let it = then-made of_json (option_and_then (λ p. json.if_last p.0 p.1) (json.value max_depth (tokens text))) d found in
+      let it = then_some of_json (option_and_then (λ p. json.if_last p.0 p.1) (json.value max_depth (tokens text))) d found in
       json-data it.0 (json-read text (IsUtf8-from_is_utf8 text good) it.0 it.1) d it.2
 
 -- a member of a value
@@ -213,18 +216,6 @@ data-props (values.string s) are props is = absurd (cc)
 data-props (values.array ds) are props is = absurd (cc)
 data-props (values.object ms) are props is = let good : AreProps ms props = member-texts ms are.0 are.1 props is in (good.rising, good.texts)
 
--- one property more
-texts-kept : (f : List ℕ × List ℕ → Bool) (ps : Properties) → AreTexts ps → AreTexts (filter f ps)
-texts-kept f [] texts = tt
-texts-kept f (p ∷ ps) texts = at (f p) (texts-kept f ps texts.2) where
-  at : (b : Bool) → AreTexts (filter f ps) → AreTexts (cond b (p ∷ filter f ps) (filter f ps))
-  at true rest = (texts.0, texts.1, rest)
-  at false rest = rest
-
-texts-append : (ps qs : Properties) → AreTexts ps → AreTexts qs → AreTexts (ps ++ qs)
-texts-append [] qs front back = back
-texts-append (p ∷ ps) qs front back = (front.0, front.1, texts-append ps qs front.2 back)
-
 with-texts : (key value : List ℕ) (ps : Properties) → IsUtf8 key → IsUtf8 value → AreTexts ps → AreTexts (with_value key value ps)
 with-texts key value ps own text texts =
     texts-append (below key ps) ((key, value) ∷ above key ps) (texts-kept (λ p. is_lt (cmp p.0 key)) ps texts)
@@ -232,14 +223,14 @@ with-texts key value ps own text texts =
 
 -- ---- what a body asks for
 
-read-props : (o : Result Properties JsonFault) (props : Properties) → unless_fault o ≡ Some props → o ≡ Ok props
+read-props : (o : Result Properties JsonFault) (props : Properties) → result_ok o ≡ Some props → o ≡ Ok props
 read-props (Ok own) props is = let same : own ≡ props = cc in ap (λ (p : Properties). Ok p) same
 read-props (Err fault) props is = absurd (cc)
 
 named-good : (name : List ℕ) (d : Data) (config : Properties) → IsUtf8 name → IsData d → named_config name d ≡ Some config → AreGood config
 named-good name d config text are is =
-    let one = made (with_value (codes "name") name) (option_and_then (where_it (may_be_named name)) (unless_fault (props_of_data d))) config is in
-    let two = then-made (where_it (may_be_named name)) (unless_fault (props_of_data d)) one.0 one.1 in
+    let one = made (with_value (codes "name") name) (option_and_then (where_it (may_be_named name)) (result_ok (props_of_data d))) config is in
+    let two = then_some (where_it (may_be_named name)) (result_ok (props_of_data d)) one.0 one.1 in
     let three = tested (may_be_named name) two.0 one.0 two.2 in
     let good : AreGood two.0 = data-props d are two.0 (read-props (props_of_data d) two.0 two.1) in
     let own : AreGood one.0 = subst AreGood three.1 good in
@@ -247,20 +238,20 @@ named-good name d config text are is =
 
 asked-good : (body : List ℕ) (asked : Asked) → asked_in body ≡ Some asked → AreGood asked.config
 asked-good body asked is =
-    let one = then-made asked_by (option_and_then (where_it (has_members 2)) (reading body)) asked is in
-    let two = then-made (where_it (has_members 2)) (reading body) one.0 one.1 in
+    let one = then_some asked_by (option_and_then (where_it (has_members 2)) (reading body)) asked is in
+    let two = then_some (where_it (has_members 2)) (reading body) one.0 one.1 in
     let three = tested (has_members 2) two.0 one.0 two.2 in
     let are : IsData one.0 = subst IsData three.1 (reading-data body two.0 two.1) in
-    let four = then-made (asked_with one.0) (option_and_then as_str (get (codes "name") one.0)) asked one.2 in
-    let five = then-made as_str (get (codes "name") one.0) four.0 four.1 in
+    let four = then_some (asked_with one.0) (option_and_then as_str (get (codes "name") one.0)) asked one.2 in
+    let five = then_some as_str (get (codes "name") one.0) four.0 four.1 in
     let text : IsUtf8 four.0 = text-data five.0 four.0 (get-data (codes "name") one.0 five.0 are five.1) five.2 in
     let six = made (λ (config : Properties). record { name = four.0; config = config }) (option_and_then (named_config four.0) (get (codes "config") one.0)) asked four.2 in
-    let seven = then-made (named_config four.0) (get (codes "config") one.0) six.0 six.1 in
+    let seven = then_some (named_config four.0) (get (codes "config") one.0) six.0 six.1 in
     subst (λ (a : Asked). AreGood a.config) six.2 (named-good four.0 seven.0 six.0 text (get-data (codes "config") one.0 seven.0 are seven.1) seven.2)
 
 config-good : (name body : List ℕ) (config : Properties) → IsUtf8 name → config_in name body ≡ Some config → AreGood config
 config-good name body config text is =
-    let one = then-made (named_config name) (reading body) config is in
+    let one = then_some (named_config name) (reading body) config is in
     named-good name one.0 config text (reading-data body one.0 one.1) one.2
 
 -- what each call writes can be written

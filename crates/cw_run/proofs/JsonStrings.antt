@@ -3,10 +3,11 @@ use Rattle.std.proofs.Common.{◌≡◌, inl, inr, ℕ, zero, suc, ◌+◌, ◌-
 use Rattle.std.specs.Char.{digit_value, is_digit, encode_utf8}
 use Rattle.std.proofs.lemmas.Bool.{and_parts, cases_lt, eqb-true, le-ltb, lt-ltb, le-leb}
 use Rattle.std.proofs.lemmas.Str.{IsUtf8-append, IsUtf8-nil, IsUtf8-encode, IsUtf8-drop, IsCharBoundary-after_ascii, encode_ascii, inside_one}
+use Rattle.cw_laws.proofs.TaskParts.{then_some}
+use Rattle.cw_laws.proofs.ReadContent.{digit-small}
 use borrow.Author.Tests.{leb-true, leb-false}
 use lib.Utf8.{scalar, scalars, encode, encodes, low_scalar}
 use Rattle.json.specs.Text.{code_unit, short_escape, is_high_surrogate, is_low_surrogate, surrogate_pair, Within, plain, after_backslash, after_u, after_high, prepend, content}
-use Rattle.cw_run.proofs.Altering.{then-made}
 
 -- ---- bytes and characters
 
@@ -87,21 +88,6 @@ content-high (y ∷ ys) rest high =
       twice y ys (Some s) = refl
 
 -- ---- escapes
-
--- a digit is one of ASCII, and below 16
-digit-small : (c : ℕ) → is_digit c 16 ≡ true → c < 128
-digit-small c is = elim (cases_lt c 128) [ inl small ↦ small | inr big ↦ absurd (no-digit c big is) ] where
-  no-digit : (c : ℕ) → 128 ≤ c → nat_lt (digit_value c) 16 ≡ true → ⊥
-  no-digit c big is = at (nat_lt c 48) (nat_lt c 58) (nat_lt c 65) (nat_lt c 91) (nat_lt c 97) (nat_lt c 123) refl refl refl refl refl refl is where
-    at : (a b d e g h : Bool) → nat_lt c 48 ≡ a → nat_lt c 58 ≡ b → nat_lt c 65 ≡ d → nat_lt c 91 ≡ e → nat_lt c 97 ≡ g → nat_lt c 123 ≡ h →
-        nat_lt (cond a 36 (cond b (c - 48) (cond d 36 (cond e (c - 55) (cond g 36 (cond h (c - 87) 36)))))) 16 ≡ true → ⊥
-    at true b d e g h p q r t u v is = absurd (omega (arith, big, ltb-true c 48 p))
-    at false true d e g h p q r t u v is = absurd (omega (arith, big, ltb-true c 58 q))
-    at false false true e g h p q r t u v is = absurd (omega (arith, big, ltb-true c 65 r))
-    at false false false true g h p q r t u v is = absurd (omega (arith, big, ltb-true c 91 t))
-    at false false false false true h p q r t u v is = absurd (omega (arith, big, ltb-true c 97 u))
-    at false false false false false true p q r t u v is = absurd (omega (arith, big, ltb-true c 123 v))
-    at false false false false false false p q r t u v is = cc
 
 -- four digits, and the number that they spell
 pub record AreDigits (a b c d u : ℕ) : Type 0 where
@@ -247,7 +233,7 @@ module _ (n : ℕ) (reads : Reads n) where
     at : (b : Bool) → (x == 117) ≡ b → cond b (content after_u xs) (option_and_then (λ c. prepend (c ∷ []) (content plain xs)) (short_escape x)) ≡ Some s → IsUtf8 s
     at true same found = reads after_u xs short tt (ascii-behind x xs (omega (arith, eqb-true x 117 same)) u) s found
     at false other found =
-        let it = then-made (λ c. prepend (c ∷ []) (content plain xs)) (short_escape x) s found in
+        let it = then_some (λ c. prepend (c ∷ []) (content plain xs)) (short_escape x) s found in
         let small = short-small x it.0 it.1 in
         let rest = prepended (it.0 ∷ []) s (content plain xs) it.2 in
         subst IsUtf8 rest.2 (ascii-first it.0 rest.0 small.1 (reads plain xs short tt (ascii-behind x xs small.0 u) rest.0 rest.1))
@@ -260,7 +246,7 @@ module _ (n : ℕ) (reads : Reads n) where
   unfolding content
   unit-read a b c d xs short u s is = of it.0 (unit-digits a b c d it.0 it.1) (is_high_surrogate it.0) (is_low_surrogate it.0) refl refl it.2 where
     it : (v : ℕ) × (code_unit a b c d ≡ Some v) × (cond (is_high_surrogate v) (content (after_high v) xs) (cond (is_low_surrogate v) None (prepend (encode_utf8 v) (content plain xs))) ≡ Some s)
-    it = then-made (λ v. cond (is_high_surrogate v) (content (after_high v) xs) (cond (is_low_surrogate v) None (prepend (encode_utf8 v) (content plain xs)))) (code_unit a b c d) s is
+    it = then_some (λ v. cond (is_high_surrogate v) (content (after_high v) xs) (cond (is_low_surrogate v) None (prepend (encode_utf8 v) (content plain xs)))) (code_unit a b c d) s is
 
     of : (v : ℕ) → AreDigits a b c d v → (high low : Bool) → is_high_surrogate v ≡ high → is_low_surrogate v ≡ low →
         cond high (content (after_high v) xs) (cond low None (prepend (encode_utf8 v) (content plain xs))) ≡ Some s → IsUtf8 s
@@ -289,7 +275,7 @@ module _ (n : ℕ) (reads : Reads n) where
     at false q p r found = absurd (cc)
     at true false p r found = absurd (cc)
     at true true p r found =
-        let it = then-made (λ l. cond (is_low_surrogate l) (prepend (encode_utf8 (surrogate_pair h l)) (content plain xs)) None) (code_unit a b c d) s found in
+        let it = then_some (λ l. cond (is_low_surrogate l) (prepend (encode_utf8 (surrogate_pair h l)) (content plain xs)) None) (code_unit a b c d) s found in
         of (omega (arith, eqb-true x 92 p)) (omega (arith, eqb-true y 117 r)) it.0 (unit-digits a b c d it.0 it.1) (is_low_surrogate it.0) refl it.2
 
 -- a string in UTF-8 has a content in UTF-8

@@ -10,8 +10,9 @@ use Rattle.json.specs.Word.{is_operator, is_space, head, number_before, after_nu
 use Rattle.json.specs.Lex.{Lexeme, token, comma, colon, Class, quote, backslash, operator, space, other, class, operator_lexeme, string_token, Mode, between, in_word, in_string, in_escape, lex_byte, lex, Place, fresh, after_value, after_comma, after_key, begins_colon, may_begin, may_close, if_allowed, place_token, punctuate, tokens}
 use Rattle.json.specs.Json as json
 use Rattle.serde_json.specs.Read.{max_depth}
-use Rattle.cw_run.proofs.Altering.{made, then-made}
 use Rattle.cw_run.proofs.JsonStrings.{content-utf8}
+use Rattle.cw_run.proofs.Altering.{made}
+use Rattle.cw_laws.proofs.TaskParts.{then_some}
 
 -- ---- tokens
 
@@ -229,7 +230,7 @@ items-read value reads (suc n) ts each x is = at (json.after_end_array ts) refl 
   at : (o : Option (List Token)) → json.after_end_array ts ≡ o → json.items_step value (json.items value n) ts o ≡ Some x → Parses AreItems (json.items value n) → AreItems x.0 × AreTokens x.1
   at (Some rest) ended is more = let same : (json.no_items, rest) ≡ x = cc in subst (λ (y : json.Items × List Token). AreItems y.0 × AreTokens y.1) same (tt, after-end ts rest each ended)
   at None ended is more =
-      let it = then-made (λ (p : json.Json × List Token). json.parse_map (json.item p.0) (json.items value n p.1)) (value ts) x is in
+      let it = then_some (λ (p : json.Json × List Token). json.parse_map (json.item p.0) (json.items value n p.1)) (value ts) x is in
       let first = reads ts each it.0 it.1 in
       mapped AreItems AreItems (json.item it.0.0) (λ js are. (first.0, are)) (json.items value n it.0.1) (λ a found. more it.0.1 first.1 a found) x it.2
 
@@ -238,12 +239,12 @@ unfolding json.members
 members-read value reads zero ts each x is = absurd (cc)
 members-read value reads (suc n) ts each x is = at it.0 (key-read ts each it.0 it.1) it.2 (members-read value reads n) where
   it : (p : Option (List ℕ) × List Token) × (json.read_key ts ≡ Some p) × (json.members_step value (json.members value n) p.0 p.1 ≡ Some x)
-  it = then-made (λ (p : Option (List ℕ) × List Token). json.members_step value (json.members value n) p.0 p.1) (json.read_key ts) x is
+  it = then_some (λ (p : Option (List ℕ) × List Token). json.members_step value (json.members value n) p.0 p.1) (json.read_key ts) x is
 
   step : (o : Option (List ℕ)) (us : List Token) → IsKey o → AreTokens us → json.members_step value (json.members value n) o us ≡ Some x → Parses AreMembers (json.members value n) → AreMembers x.0 × AreTokens x.1
   step None us named each is more = let same : (json.no_members, us) ≡ x = cc in subst (λ (y : json.Members × List Token). AreMembers y.0 × AreTokens y.1) same (tt, each)
   step (Some k) us named each is more =
-      let it = then-made (λ (p : json.Json × List Token). json.parse_map (json.member k p.0) (json.members value n p.1)) (value us) x is in
+      let it = then_some (λ (p : json.Json × List Token). json.parse_map (json.member k p.0) (json.members value n p.1)) (value us) x is in
       let first = reads us each it.0 it.1 in
       mapped AreMembers AreMembers (json.member k it.0.0) (λ ms are. (named, first.0, are)) (json.members value n it.0.1) (λ a found. more it.0.1 first.1 a found) x it.2
 
@@ -273,7 +274,7 @@ value-read (suc depth) = with-read (λ ts. json.items (json.value depth) (length
 -- the JSON that a text is
 pub json-read : (text : List ℕ) → IsUtf8 text → (j : json.Json) → option_and_then (λ p. json.if_last p.0 p.1) (json.value max_depth (tokens text)) ≡ Some j → IsJson j
 json-read text u j is =
-    let it = then-made (λ (p : json.Json × List Token). json.if_last p.0 p.1) (json.value max_depth (tokens text)) j is in
+    let it = then_some (λ (p : json.Json × List Token). json.if_last p.0 p.1) (json.value max_depth (tokens text)) j is in
     let parts = value-read max_depth (tokens text) (tokens-texts text u) it.0 it.1 in
     last it.0.1 it.0.0 parts.0 it.2 where
       last : (ts : List Token) (own : json.Json) → IsJson own → json.if_last own ts ≡ Some j → IsJson j

@@ -14,7 +14,7 @@ use Rattle.cw_types.specs.declared.logs.LogName.TheVariants as log
 use Rattle.cw_config.specs.View.{generation_of, task_count_of, fenced_count_of, is_pending}
 use Rattle.cw_data.specs.declared.entry.DataEntry.TheVariants.{Mark as DataMark}
 use Rattle.cw_offset.specs.declared.body.OffsetEntry.TheVariants.{Mark, Records}
-use Rattle.cw_rest.specs.Operations.{offset_entries}
+use Rattle.cw_rest.specs.Operations.{offset_entries, commit_values}
 use Rattle.cw_txn.specs.Legal.{is_committed}
 use Rattle.cw_txn.specs.declared.entry.Entry.TheVariants.{Bump, Commit}
 use Rattle.cw_txn.specs.declared.entry.SetOffset.{SetOffset}
@@ -41,7 +41,7 @@ use Rattle.cw_model.specs.declared.instance.Trace.TheVariants as trace
 use Rattle.cw_model.specs.State.{Setting, Cluster}
 use Rattle.cw_model.specs.Answers.{Answer, refused, answered, unless_closed, at_group}
 use Rattle.cw_model.specs.EventsCompaction.{compact, compacts}
-use Rattle.cw_model.specs.EventsGroups.{entered, incarnation_in, plan_for, join, close_round, store_plan, sync, is_due, without_due_delay}
+use Rattle.cw_model.specs.EventsGroups.{entered, incarnation_in, plan_for, join, close_round, store_plan, sync, without_due_delay}
 use Rattle.cw_model.specs.EventsItems.{read_config, start_item, stop_item, restart}
 use Rattle.cw_model.specs.EventsLeading.{claim_lead, append_config, fence_one, append_fence, fencing_of, fenced_tid, fence_record, set_offsets}
 use Rattle.cw_model.specs.EventsMarking.{mark, marks, no_tag, unmarked_in}
@@ -54,16 +54,17 @@ use Rattle.cw_model.specs.Journal.{is_success}
 use Rattle.cw_model.specs.Lookups.{configured_items, held, row_of, instance_of, last_epoch, seen}
 use Rattle.cw_model.specs.Phases.{is_ended}
 use Rattle.cw_model.specs.Polls.{Delivery, source_turn, cut_at, gathered}
-use Rattle.cw_model.specs.Proposals.{proposal_of, are_deferred, commit_records, task_records}
+use Rattle.cw_model.specs.Proposals.{proposal_of, are_deferred, task_records}
 use Rattle.cw_model.specs.Ready.{ready}
 use Rattle.cw_model.specs.Steps as task
-use Rattle.cw_model.specs.Steps.{fails_if_fenced, span_to, takes_cut, polls_source, polls_sink, polls, does, waits, step}
+use Rattle.cw_model.specs.Steps.{fails_if_fenced, takes_cut, polls_source, polls_sink, does, waits, step}
 use Rattle.cw_model.specs.Tasks.{is_sink, cut_of, span_of, tag_of}
 use Rattle.cw_model.specs.Tick.{rules, deaf_rules, first_rule, rule_for, follows, tick}
 use Rattle.cw_model.specs.TickRules as ticks
 use Rattle.cw_model.specs.TickRules.{Rule, rule, when, Proposing, or_lost}
 use Rattle.cw_model.specs.Updates.{as_leader, as_producer, epoch_in, tid_of, task_id_of, stamped, fits_configs, fits_offset, fits_status, fits_entries, fits_data}
 use Rattle.cw_edges.specs.Requests.{seen_now, reply_now, would_succeed, behind_write, writes, item_of, restarted, answers_by, answers, written, HasWritten}
+use Rattle.cw_group.specs.Circle.{is_due}
 
 -- a refusal of the event itself
 abbrev pub IsOwnFault : WorldFault → Type 0
@@ -303,7 +304,7 @@ module _ (s : Cluster) (unclosed : s.closed ≡ None) where
 
   proposes-lives : (w : ℕ) (p : Proposing) → Lives (ticks.proposes w s p)
   proposes-lives w p = lives-lost _ (lives-if (are_deferred (seen w s) p.connector) _ _
-      (lives-tells _ (λ offset _. outcome.Commit p.connector offset) (configs-lives s unclosed p.leader (commit_records p.connector (length (proposal_of p.connector (seen w s))))))
+      (lives-tells _ (λ offset _. outcome.Commit p.connector offset) (configs-lives s unclosed p.leader (commit_values p.connector (length (proposal_of p.connector (seen w s))))))
       (lives-tells _ (λ _ _. outcome.Propose p.connector (length (proposal_of p.connector (seen w s)))) (configs-lives s unclosed p.leader (task_records p.connector (proposal_of p.connector (seen w s))))))
 
   fences-live : (w : ℕ) (name : List ℕ) → Lives (ticks.fences w s name)

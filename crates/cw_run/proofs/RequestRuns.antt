@@ -18,24 +18,18 @@ use Rattle.cw_model.specs.State.{Setting, Cluster}
 use Rattle.cw_model.specs.Facts.{AreFacts}
 use Rattle.cw_model.specs.Answers.{Answer, refused, answered, unless_closed}
 use Rattle.cw_model.specs.Lookups.{row_of}
-use Rattle.cw_model.specs.EventsItems.{read_config, is_active}
+use Rattle.cw_model.specs.EventsItems.{read_config}
 use Rattle.cw_model.specs.EventsLeading.{append_config, set_offsets, MayAppendConfig, MaySetOffsets}
 use Rattle.cw_model.specs.Journal.{is_success}
-use Rattle.cw_model.specs.Ready.{ready, leader_for}
+use Rattle.cw_model.specs.Ready.{ready}
 use Rattle.cw_model.specs.Runs as step
-use Rattle.cw_laws.proofs.Proposed.{leader-leads}
+use Rattle.cw_laws.proofs.Proposed.{ready-leads}
 use Rattle.cw_edges.specs.Requests.{seen_now, reply_now, would_succeed, behind_write, writes, item_of, restarted, answers_by, answers}
 use Rattle.cw_run.specs.Reaches.{Reaches}
-use Rattle.cw_run.proofs.Altering.{offsets-may, joined-entries}
+use Rattle.cw_run.proofs.Altering.{offsets-may}
 use Rattle.cw_run.proofs.Reaching.{stays, makes, goes_on}
 use Rattle.cw_run.proofs.Writing.{CanBeWritten, values-may}
-
--- a leader through which a worker is ready has its epoch
-pub ready-leads : (w leader : ℕ) (s : Cluster) → ready w s ≡ Some leader → IsSome (row_of leader s).lead
-ready-leads w leader s is = at (is_active s w) is where
-  at : (b : Bool) → (if b then leader_for (row_of w s).phase s else None) ≡ Some leader → IsSome (row_of leader s).lead
-  at true is = leader-leads (row_of w s).phase leader s is
-  at false is = absurd (cc)
+use Rattle.cw_laws.proofs.CallOffsets.{frames-entries}
 
 module _ (setting : Setting) (s : Cluster) (f : AreFacts setting s) (w : ℕ) (call : Call) where
   -- behind an event that writes
@@ -73,7 +67,7 @@ module _ (setting : Setting) (s : Cluster) (f : AreFacts setting s) (w : ℕ) (c
 
   -- its events may be made
   entries-written : AllByRecursion IsEntry s.entries
-  entries-written = subst (AllByRecursion IsEntry) f.logs.all_entries (joined-entries s.txn f.logs.written.txn)
+  entries-written = subst (AllByRecursion IsEntry) f.logs.all_entries (frames-entries s.txn f.logs.written.txn)
 
   pub configs-may : HoldsName call → CanBeWritten call → AllByRecursion IsName (names_of setting.feeds) → deed_of call ≡ writes_configs → (leader : ℕ) → IsSome (row_of leader s).lead → would_succeed setting w call s ≡ true →
       MayAppendConfig leader (values_of call) s

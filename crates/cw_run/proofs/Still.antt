@@ -20,12 +20,13 @@ use Rattle.cw_model.specs.EventsSources.{init, verify, fetch, produce, put_offse
 use Rattle.cw_model.specs.EventsSinks.{sink_cut, deliver, put_sink}
 use Rattle.cw_model.specs.Polls.{Delivery, cut_at, source_turn, gathered}
 use Rattle.cw_model.specs.Tasks.{is_sink, cut_of}
-use Rattle.cw_model.specs.Proposals.{proposal_of, are_deferred, commit_records, task_records}
+use Rattle.cw_model.specs.Proposals.{proposal_of, are_deferred, task_records}
 use Rattle.cw_model.specs.TickRules.{Rule, rule, when, told, tells, or_lost, unless_lost, read_applies, reads, stop_applies, deaf_stop_applies, stops, join_applies, joins, close_applies, closes, plan_applies, plans, sync_applies, syncs, lead_applies, takes_lead, Proposing, propose_applies, proposes, fence_applies, fences, mark_applies, marks_ended, start_applies, starts, report_applies, reports_state}
 use Rattle.cw_model.specs.Tick.{rules, deaf_rules, first_rule, rule_for, follows, tick}
 use Rattle.cw_model.specs.Steps as task
 use Rattle.cw_run.specs.Settling.{tick_moves, step_moves}
 use Rattle.cw_run.proofs.StepRuns.{init-stays, verify-stays, fetch-stays, produce-stays, put_offsets-stays, commit-stays, deliver-stays, put_sink-stays}
+use Rattle.cw_rest.specs.Operations.{commit_values}
 
 -- where what was done moves nothing, the cluster is as it was
 abbrev pub IsStill : {A : Type 0} → (A → Bool) → Cluster → Answer A → Type 0
@@ -78,10 +79,10 @@ module _ (w : ℕ) (s : Cluster) where
   proposes-moves : (p : Proposing) → Moves tick_moves (proposes w s p).0
   proposes-moves p = either (are_deferred (seen w s) p.connector) where
     either : (b : Bool) → Moves tick_moves (unless_lost (
-        if b then tells (append_config p.leader (commit_records p.connector (length (proposal_of p.connector (seen w s)))) s) (λ offset _. outcome.Commit p.connector offset)
+        if b then tells (append_config p.leader (commit_values p.connector (length (proposal_of p.connector (seen w s)))) s) (λ offset _. outcome.Commit p.connector offset)
         else tells (append_config p.leader (task_records p.connector (proposal_of p.connector (seen w s))) s) (λ _ _. outcome.Propose p.connector (length (proposal_of p.connector (seen w s)))))).0
     either true =
-        let did = append_config p.leader (commit_records p.connector (length (proposal_of p.connector (seen w s)))) s in
+        let did = append_config p.leader (commit_values p.connector (length (proposal_of p.connector (seen w s)))) s in
         lost-moves (told did.0 (λ offset. outcome.Commit p.connector offset)) (told-moves did.0 (λ offset. outcome.Commit p.connector offset) (λ x. refl))
     either false =
         let did = append_config p.leader (task_records p.connector (proposal_of p.connector (seen w s))) s in

@@ -1,6 +1,7 @@
 -- A worker's tick is a run: the event of the first rule that applies, which may be made, or nothing.
 use Rattle.std.proofs.Common.{◌≡◌, ℕ, ◌∷◌, [], Bool, true, false, List, Option, Some, None, nat_lt, length, if◌then◌else◌, refl, ltb-false}
 use Rattle.std.specs.Option.{option_or}
+use Rattle.cw_rest.specs.Operations.{commit_values}
 use borrow.Author.Tests.{ltb-true}
 use Rattle.cw_types.specs.declared.ids.Item.{Item}
 use Rattle.cw_model.specs.declared.tick.Tick.{Tick}
@@ -11,8 +12,7 @@ use Rattle.cw_model.specs.FactsRows.{IsSoundRow}
 use Rattle.cw_model.specs.Lookups.{row_of, seen}
 use Rattle.cw_model.specs.Answers.{Answer, answered}
 use Rattle.cw_model.specs.EventsLeading.{append_config, fence_one, append_fence, fencing_of, MayAppendConfig}
-use Rattle.cw_model.specs.Proposals.{proposal_of, are_deferred, commit_records, task_records}
-use Rattle.cw_model.specs.Runs.{Step, May, behind}
+use Rattle.cw_model.specs.Proposals.{proposal_of, are_deferred, task_records}
 use Rattle.cw_model.specs.Runs as step
 use Rattle.cw_model.specs.TickRules.{Rule, rule, when, read_applies, reads, stop_applies, deaf_stop_applies, stops, join_applies, joins, close_applies, closes, plan_applies, plans, sync_applies, syncs, lead_applies, takes_lead, Proposing, propose_applies, proposes, tells, fence_applies, fences, mark_applies, marks_ended, start_applies, starts, report_applies, reports_state, number_at}
 use Rattle.cw_model.specs.Tick.{rules, deaf_rules, first_rule, rule_for, follows, tick}
@@ -66,10 +66,10 @@ module _ (setting : Setting) (s : Cluster) (f : AreFacts setting s) (w : ℕ) wh
 
   proposes-run : seen w s ≡ s.configs → (p : Proposing) → propose_applies w s ≡ Some p → Reaches setting s (proposes w s p).1
   proposes-run all p is = either (are_deferred (seen w s) p.connector) (proposes-well w s f.rows f.logs.configs.allowed p is all) where
-    either : (b : Bool) → MayAppendConfig p.leader (if b then commit_records p.connector (length (proposal_of p.connector (seen w s))) else task_records p.connector (proposal_of p.connector (seen w s))) s →
-        Reaches setting s (if b then tells (append_config p.leader (commit_records p.connector (length (proposal_of p.connector (seen w s)))) s) (λ offset _. outcome.Commit p.connector offset)
+    either : (b : Bool) → MayAppendConfig p.leader (if b then commit_values p.connector (length (proposal_of p.connector (seen w s))) else task_records p.connector (proposal_of p.connector (seen w s))) s →
+        Reaches setting s (if b then tells (append_config p.leader (commit_values p.connector (length (proposal_of p.connector (seen w s)))) s) (λ offset _. outcome.Commit p.connector offset)
         else tells (append_config p.leader (task_records p.connector (proposal_of p.connector (seen w s))) s) (λ _ _. outcome.Propose p.connector (length (proposal_of p.connector (seen w s))))).1
-    either true may = makes setting s (step.append_config p.leader (commit_records p.connector (length (proposal_of p.connector (seen w s))))) may
+    either true may = makes setting s (step.append_config p.leader (commit_values p.connector (length (proposal_of p.connector (seen w s))))) may
     either false may = makes setting s (step.append_config p.leader (task_records p.connector (proposal_of p.connector (seen w s)))) may
 
   fences-run : (name : List ℕ) → fence_applies w s ≡ Some name → Reaches setting s (fences w s name).1

@@ -1,10 +1,9 @@
 -- What a call that would succeed writes to the config log may be written there.
-use Rattle.std.proofs.Common.{◌≡◌, ℕ, ◌+◌, ◌∷◌, ◌++◌, [], Bool, true, false, not, List, Option, Some, None, IsSome, is_none, Result, Ok, Err, refl, sym, ◌∙◌, arith}
+use Rattle.std.proofs.Common.{◌≡◌, ℕ, ◌+◌, ◌∷◌, ◌++◌, [], true, false, not, List, Option, Some, None, IsSome, refl, ◌∙◌, arith}
 use Rattle.std.specs.List.{AllByRecursion}
 use Rattle.std.specs.Option.{option_map_or}
 use Rattle.std.proofs.lemmas.List.Elements.{All-from_recursion}
-use Rattle.cw_types.specs.Name.{IsName, name_fault}
-use Rattle.cw_types.specs.declared.name.NameFault.{NameFault}
+use Rattle.cw_types.specs.Name.{IsName}
 use Rattle.cw_keys.specs.declared.target.Target.{Target}
 use Rattle.cw_keys.specs.declared.target.Target.TheVariants.{Started, Paused, Stopped}
 use Rattle.cw_keys.specs.declared.config_key.ConfigKey.{ConfigKey}
@@ -16,53 +15,31 @@ use Rattle.cw_config.specs.declared.records.ConfigRecord.{ConfigRecord}
 use Rattle.cw_config.specs.Acceptance.{end_of}
 use Rattle.cw_config.specs.Records.{same_key}
 use Rattle.cw_config.specs.View.{Properties, task_count_of}
-use Rattle.cw_plugin.specs.declared.class.Class.{Class}
-use Rattle.cw_plugin.specs.declared.fault.PluginFault.{PluginFault}
 use Rattle.cw_plugin.specs.declared.fault.PluginFault.TheVariants as plugin
 use Rattle.cw_plugin.specs.Tasks.{IsFaultless}
 use Rattle.cw_plugin.specs.Checks.{checked, is_name, is_among}
-use Rattle.cw_route.specs.declared.reply.Reply.{Reply}
 use Rattle.cw_route.specs.declared.call.Call.{Call}
 use Rattle.cw_route.specs.declared.call.Call.TheVariants.{Refused, Connectors, Create, Info, Delete, Config, PutConfig, Status, Tasks, TaskStatus, Pause, Resume, Stop, Restart, RestartTask, Offsets, Alter, Reset, Plugins}
 use Rattle.cw_rest.specs.Bodies.{Asked, asked_in, config_in}
 use Rattle.cw_rest.specs.Calls.{writes_configs, deed_of}
 use Rattle.cw_rest.specs.Seen.{Seen, is_connector}
-use Rattle.cw_rest.specs.Messages.{bad_config, bad_name, already_there}
+use Rattle.cw_rest.specs.Messages.{bad_name, already_there}
 use Rattle.cw_rest.specs.Operations.{config_values, target_values, stop_values, delete_values}
-use Rattle.cw_rest.specs.Replies.{unless, unless_bad, unless_faulty, if_taken, written, create_reply, put_reply, reply_to, values_of}
+use Rattle.cw_rest.specs.Replies.{unless_bad, if_taken, written, create_reply, put_reply, reply_to, values_of}
 use Rattle.cw_model.specs.State.{Cluster}
 use Rattle.cw_model.specs.Lookups.{row_of}
 use Rattle.cw_model.specs.ConfigsAllowed.{IsAllowedConfig, is_fence_key}
 use Rattle.cw_model.specs.EventsLeading.{MayAppendConfig}
 use Rattle.cw_model.specs.Journal.{is_success}
 use Rattle.cw_model.specs.Updates.{stamp_of}
-use Rattle.cw_laws.proofs.Configs.{end_of-push}
 use Rattle.cw_laws.proofs.Keys.{same_key-itself}
 use Rattle.cw_laws.proofs.ConfigViews.{task_count_of-push}
 use Rattle.cw_route.specs.HeldNames.{HoldsName}
 use Rattle.cw_run.proofs.Faultless.{taken-faultless}
+use Rattle.cw_config.proofs.Pushed.{end_of-push}
+use Rattle.cw_laws.proofs.CallValues.{unless-done, taken-done, name-passes}
 
 -- ---- replies
-
--- a reply that nothing lacks is a success
-pub nothing-lacks : (b : Bool) (lacking done : Reply) → is_success lacking ≡ false → is_success (unless b lacking done) ≡ true → (b ≡ true) × (is_success done ≡ true)
-nothing-lacks true lacking done fails succeeds = (refl, succeeds)
-nothing-lacks false lacking done fails succeeds = absurd (let never : false ≡ true = sym fails ∙ succeeds in cc)
-
--- no config's fault is a success
-fault-fails : (fault : PluginFault) → is_success (bad_config fault) ≡ false
-fault-fails plugin.NoClass = refl
-fault-fails plugin.UnknownClass = refl
-fault-fails (plugin.Missing key) = refl
-fault-fails (plugin.BadInt key) = refl
-fault-fails (plugin.NoFeed feed) = refl
-fault-fails (plugin.BadName key) = refl
-fault-fails plugin.Memory = refl
-
--- a config that its class takes
-pub no-fault : (result : Result Class PluginFault) (done : Reply) → is_success (unless_faulty result done) ≡ true → (class : Class) × (result ≡ Ok class)
-no-fault (Ok class) done succeeds = (class, refl)
-no-fault (Err fault) done succeeds = absurd (let never : false ≡ true = sym (fault-fails fault) ∙ succeeds in cc)
 
 -- ---- what is written
 
@@ -154,28 +131,21 @@ module _ (leader : ℕ) (s : Cluster) (leads : IsSome (row_of leader s).lead) wh
 abbrev pub CanBeWritten : Call → Type 0
 CanBeWritten call = AllByRecursion (λ (kv : ConfigKey × Option ConfigValue). IsConfigValue kv.1) (values_of call)
 
--- bytes that are tested to be a name
-named-by : (name : List ℕ) → is_name name ≡ true → IsName name
-named-by name is = at (name_fault name) refl is where
-  at : (o : Option NameFault) → name_fault name ≡ o → is_none o ≡ true → name_fault name ≡ None
-  at None good is = good
-  at (Some fault) bad is = absurd (let never : false ≡ true = is in cc)
-
 module _ (leader : ℕ) (s : Cluster) (leads : IsSome (row_of leader s).lead) (seen : Seen) (feeds : AllByRecursion IsName seen.feeds) where
   create-may : (body : List ℕ) (o : Option Asked) → asked_in body ≡ o → AllByRecursion (λ (kv : ConfigKey × Option ConfigValue). IsConfigValue kv.1) (option_map_or (λ asked. config_values asked.name asked.config) o []) →
       is_success (unless_bad o (create_reply true seen)) ≡ true → MayAppendConfig leader (option_map_or (λ asked. config_values asked.name asked.config) o []) s
   create-may body None none fit succeeds = absurd (let never : false ≡ true = succeeds in cc)
   create-may body (Some asked) is fit succeeds =
-      let one = nothing-lacks (is_name asked.name) bad_name _ refl succeeds in
-      let two = nothing-lacks (not (is_connector asked.name seen)) (already_there asked.name) (if_taken asked.config seen (written 201 asked.name (config_values asked.name asked.config) seen)) refl one.1 in
-      let taken = no-fault (checked (is_among seen.feeds) asked.config) _ two.1 in
-      config-may leader s leads asked.name asked.config (named-by asked.name one.0) fit.0 (taken-faultless seen.feeds feeds asked.config taken.0 taken.1)
+      let one = unless-done (is_name asked.name) bad_name _ refl succeeds in
+      let two = unless-done (not (is_connector asked.name seen)) (already_there asked.name) (if_taken asked.config seen (written 201 asked.name (config_values asked.name asked.config) seen)) refl one.1 in
+      let taken = taken-done (checked (is_among seen.feeds) asked.config) _ two.1 in
+      config-may leader s leads asked.name asked.config (name-passes asked.name one.0) fit.0 (taken-faultless seen.feeds feeds asked.config taken.0 taken.1)
 
   put-may : (name : List ℕ) → IsName name → (o : Option Properties) → AllByRecursion (λ (kv : ConfigKey × Option ConfigValue). IsConfigValue kv.1) (option_map_or (config_values name) o []) →
       is_success (unless_bad o (put_reply true seen name)) ≡ true → MayAppendConfig leader (option_map_or (config_values name) o []) s
   put-may name named None fit succeeds = absurd (let never : false ≡ true = succeeds in cc)
   put-may name named (Some props) fit succeeds =
-      let taken = no-fault (checked (is_among seen.feeds) props) _ succeeds in
+      let taken = taken-done (checked (is_among seen.feeds) props) _ succeeds in
       config-may leader s leads name props named fit.0 (taken-faultless seen.feeds feeds props taken.0 taken.1)
 
   pub values-may : (call : Call) → deed_of call ≡ writes_configs → HoldsName call → CanBeWritten call → is_success (reply_to true seen call) ≡ true → MayAppendConfig leader (values_of call) s

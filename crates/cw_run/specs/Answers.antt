@@ -16,9 +16,11 @@ use Rattle.cw_model.specs.declared.fault.WorldFault.TheVariants as fault
 use Rattle.cw_model.specs.State.{Cluster}
 use Rattle.cw_model.specs.Answers.{Answer}
 use Rattle.cw_model.specs.StepText.{step_text}
-use Rattle.cw_model.specs.TickText.{words, tick_text, log_text}
+use Rattle.cw_model.specs.TickText.{words, tick_text}
 use Rattle.cw_lines.specs.declared.end.DriveEnd.{DriveEnd}
 use Rattle.cw_lines.specs.declared.end.DriveEnd.TheVariants as ends
+use Rattle.cw_rest.specs.Messages.{log_text}
+use Rattle.cw_script.specs.Spelling.{body_words}
 
 -- an answer's text, or what ends the script; and the cluster behind it
 abbrev pub Told : Type 0
@@ -95,11 +97,6 @@ step_words i did = codes "step" ∷ decimal i ∷ step_text did ∷ []
 abbrev pub compacted_words : LogName → ℕ × ℕ → List (List ℕ)
 compacted_words log counts =
     codes "compacted" ∷ log_text log ∷ decimal counts.0 ∷ decimal counts.1 ∷ []
-
--- a body stands behind the code, where there is one
-abbrev pub body_words : List ℕ → List (List ℕ)
-body_words [] = []
-body_words (c ∷ cs) = (c ∷ cs) ∷ []
 
 -- what a request is answered
 abbrev pub reply_words : Reply → List (List ℕ)

@@ -11,7 +11,7 @@ use Rattle.cw_script.specs.declared.directive.PartEnd.{PartEnd}
 use Rattle.cw_script.specs.declared.directive.Directive.{Directive}
 use Rattle.cw_script.specs.declared.fault.LineKind.{LineKind}
 use Rattle.cw_script.specs.declared.fault.LineKind.TheVariants.{Count, Number, BadName}
-use Rattle.cw_types.specs.Pieces.{onto_first}
+use Rattle.std.specs.List.{onto_first}
 use Rattle.cw_script.specs.Words.{words, joined}
 use Rattle.cw_script.specs.Pairs.{is_pair_count, pairs_onto, pairs_of, add_pair, ArePairs}
 use Rattle.cw_script.specs.Table.{Place, number32, number64, limit, name, log, text, End, nothing, pairs, body, ValueOf, Maker, Row, table}

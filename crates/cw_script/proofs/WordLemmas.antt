@@ -1,6 +1,6 @@
 use Rattle.std.proofs.Common.{◌≡◌, ℕ, zero, suc, ◌+◌, ◌-◌, ◌<◌, ◌≤◌, List, [], ◌∷◌, length, get_or, take, drop, add-one, length-drop, nat_eq, ◌==◌, rules, Bool, true, false, cond, refl, ap, ◌∙◌, arith}
 use Rattle.std.proofs.lemmas.List.{take_all}
-use Rattle.cw_types.specs.Pieces.{onto_first}
+use Rattle.std.specs.List.{onto_first}
 use Rattle.cw_script.specs.Words.{words, joined}
 
 not_true : (b : Bool) → (b ≡ true → ⊥) → b ≡ false

@@ -1,11 +1,11 @@
 -- A line is words, each parted from the next by one space. The language is this project's own.
-use Rattle.std.specs.Prelude.{ℕ, ◌+◌, List, [], ◌∷◌, ◌++◌, length, Option, Some, None}
+use Rattle.std.specs.Prelude.{ℕ, ◌+◌, ◌==◌, List, [], ◌∷◌, ◌++◌, length, Option, Some, None}
 use Rattle.std.specs.Borrow.{Bor}
-use Rattle.cw_types.specs.Pieces.{pieces}
+use Rattle.std.specs.List.{slice_split}
 
 -- the words of a text: one more than it has spaces, so that two spaces hold an empty word
 abbrev pub words : List ℕ → List (List ℕ)
-words text = pieces 32 text
+words text = slice_split (λ c. c == 32) text
 
 -- the words behind a space, if there is one
 abbrev pub words_behind : Option (List ℕ) → List (List ℕ)

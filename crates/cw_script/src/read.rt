@@ -2,7 +2,7 @@
 ghost use Rattle.std.specs.Prelude.{◌≡◌, ◌≢◌, ◌==◌, ◌++◌, ◌∷◌, ◌<◌, ◌≤◌, [], Ok, map, length, drop, codes, IfOk, IfErr};
 ghost use Rattle.std.specs.Prelude.{IfSome, MatchOption};
 ghost use Rattle.std.specs.Option.{option_map};
-ghost use Rattle.std.specs.List.{list_any};
+ghost use Rattle.std.specs.List.{AllByRecursion, list_any};
 ghost use Rattle.cw_script.specs.Words.{words, words_behind, joined, now_of};
 ghost use Rattle.cw_script.specs.Pairs.{pair_onto, pairs_of};
 ghost use Rattle.cw_script.specs.Table.{number32, number64, limit, log, name};
@@ -60,32 +60,43 @@ fn said(
         commit_of(alloc, args)
     } else if word == b"spawn".as_slice() {
         Ok(spawn_of(args))
-    } else if word == b"kill".as_slice() {
-        Ok(only_number(args).map(Directive::Kill))
-    } else if word == b"deaf".as_slice() {
-        Ok(only_number(args).map(Directive::Deaf))
-    } else if word == b"hear".as_slice() {
-        Ok(only_number(args).map(Directive::Hear))
-    } else if word == b"expire".as_slice() {
-        Ok(only_number(args).map(Directive::Expire))
     } else if word == b"clock".as_slice() {
         Ok(only_number(args).map(Directive::Clock))
-    } else if word == b"tick".as_slice() {
-        Ok(only_number(args).map(Directive::Tick))
     } else if word == b"step".as_slice() {
         Ok(only_number(args).map(Directive::Step))
     } else if word == b"settle".as_slice() {
         Ok(only_limit(args).map(Directive::Settle))
-    } else if word == b"held".as_slice() {
-        Ok(only_number(args).map(Directive::Held))
-    } else if word == b"member".as_slice() {
-        Ok(only_number(args).map(Directive::Member))
     } else if word == b"take".as_slice() {
         take_of(alloc, args)
     } else if word == b"compact".as_slice() {
         Ok(only_log(args).map(Directive::Compact))
     } else {
-        Ok(Err(LineKind::NoWord))
+        Ok(said_of_worker(word, args))
+    }
+}
+
+// The same of a word behind which just a worker's number stands, and of one that is no directive's.
+fn said_of_worker(word: &[u8], args: &[&[u8]]) -> Result<Directive, LineKind>
+    requires { AllByRecursion (λ other. word.now ≢ other) (codes "init" ∷ codes "commit" ∷ codes "spawn" ∷ codes "clock"
+        ∷ codes "step" ∷ codes "settle" ∷ codes "rest" ∷ codes "take" ∷ codes "compact" ∷ []) }
+    ensures { result ≡ directive_of (word.now ∷ map (λ word. word.now) args.now) }
+{
+    if word == b"kill".as_slice() {
+        only_number(args).map(Directive::Kill)
+    } else if word == b"deaf".as_slice() {
+        only_number(args).map(Directive::Deaf)
+    } else if word == b"hear".as_slice() {
+        only_number(args).map(Directive::Hear)
+    } else if word == b"expire".as_slice() {
+        only_number(args).map(Directive::Expire)
+    } else if word == b"tick".as_slice() {
+        only_number(args).map(Directive::Tick)
+    } else if word == b"held".as_slice() {
+        only_number(args).map(Directive::Held)
+    } else if word == b"member".as_slice() {
+        only_number(args).map(Directive::Member)
+    } else {
+        Err(LineKind::NoWord)
     }
 }
 

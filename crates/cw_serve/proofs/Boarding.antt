@@ -10,12 +10,11 @@ use Rattle.cw_board.specs.Records.{posted, config_for, configs_of, taken}
 use Rattle.cw_board.specs.Sides.{Writing}
 use Rattle.cw_bytes.specs.declared.applied.Applied.{Applied}
 use Rattle.cw_config.specs.declared.records.ConfigRecord.{ConfigRecord}
-use Rattle.cw_config.specs.Acceptance.{may_follow, followed_by, record_with}
+use Rattle.cw_config.specs.Acceptance.{may_follow, followed_by}
 use Rattle.cw_config.specs.Compaction.{config_in}
-use Rattle.cw_keys.proofs.Values.{config_law}
 use Rattle.cw_laws.proofs.Allowed.{each_from-first, each_from-rest}
 use Rattle.cw_laws.proofs.CompactConfigs.{accepted-allowed}
-use Rattle.cw_laws.proofs.ConfigsAppended.{configs-read}
+use Rattle.cw_laws.proofs.ConfigsAppended.{configs-read, read-again}
 use Rattle.cw_laws.proofs.Lists.{each_from-each}
 use Rattle.cw_model.specs.Bodies.{config_applied}
 use Rattle.cw_model.specs.ConfigsAllowed.{IsAllowedConfig, AreAllowedConfigs}
@@ -46,10 +45,6 @@ allowed-part xs from count each =
 -- they can be written
 pub writable-part : (before xs : List ConfigRecord) → AreAllowedConfigs before xs → AllByRecursion IsWritableRecord xs
 writable-part before xs each = each_from-each IsAllowedConfig IsWritableRecord before xs (λ b r allowed. allowed.kind) each
-
--- each is read again as it is written
-read-again : (before : List ConfigRecord) (r : ConfigRecord) → IsAllowedConfig before r → config_in (config_applied r) ≡ Some r
-read-again before r a = ap (record_with r.offset r.stamp) (config_law r.key r.value a.key a.value a.kind)
 
 follow : (before : List ConfigRecord) (r : ConfigRecord) → may_follow before r ≡ true → followed_by before r ≡ Some (before ++ r ∷ [])
 follow before r is = rw is refl

@@ -1,6 +1,6 @@
 -- Connections over links, one more and two lists of them together; and the receipts that they left, in whatever order.
 use Rattle.std.proofs.Common.{◌≡◌, ℕ, suc, List, [], ◌∷◌, ◌++◌, map, Option, Result, Ok, Err, IfOk, length, refl, sym, ap, ◌∙◌, append_assoc, subst, arith}
-use Rattle.std.specs.List.{AllByRecursion, AllPairs, flat_map}
+use Rattle.std.specs.List.{AllPairs, flat_map}
 use Rattle.std.proofs.lemmas.List.Elements.{All-map}
 use Rattle.std.proofs.lemmas.List.Kept.{AllPairs-cons}
 use Rattle.std.specs.List.Sorted.{IsPermutation}
@@ -18,6 +18,7 @@ use Rattle.cw_net.specs.declared.listener.Listener as listener
 use Rattle.cw_world.specs.Receipts.{ReceiptState}
 use Rattle.cw_serve.specs.Following.{GoesOnFrom}
 use Rattle.cw_serve.specs.Talking.{AreTalks, HaveTalked, IsTalk, Serves, Talk, entries_in}
+use Rattle.cw_laws.proofs.Lists.{each-append}
 
 -- ---- pairs
 
@@ -57,11 +58,6 @@ served I ticket end left_now held_now before behind talked follow = record {
 
 -- ---- several
 
--- what is so of all of two lists is so of all of both together
-all_of_both : {X : Type 0} (P : X → Type 0) (xs ys : List X) → AllByRecursion P xs → AllByRecursion P ys → AllByRecursion P (xs ++ ys)
-all_of_both P [] ys all also = also
-all_of_both P (x ∷ xs) ys all also = (all.0, all_of_both P xs ys all.1 also)
-
 module _ {L : Type 0} (I : link.Ghosts L) where
   -- over no link
   pub no_talks : AreTalks I [] []
@@ -70,7 +66,7 @@ module _ {L : Type 0} (I : link.Ghosts L) where
   pub both_talk : (tickets others : List (Ticket L)) (entries more : List JournalEntry) → AreTalks I tickets entries → AreTalks I others more → AreTalks I (tickets ++ others) (entries ++ more)
   both_talk tickets others entries more first then = record {
     talks = first.talks ++ then.talks;
-    each = all_of_both (IsTalk I) first.talks then.talks first.each then.each;
+    each = each-append (IsTalk I) first.talks then.talks first.each then.each;
     tickets_are = map-append (λ (t : Talk L). t.ticket) first.talks then.talks ∙ (λ i. first.tickets_are i ++ then.tickets_are i);
     entries_are = flat_map-append (λ (t : Talk L). t.behind.entries) first.talks then.talks ∙ (λ i. first.entries_are i ++ then.entries_are i);
   }

@@ -1,6 +1,8 @@
 //! The outlet under its lock.
-ghost use Rattle.std.specs.Prelude.{◌≡◌, ◌≤◌, true};
+ghost use Rattle.std.specs.Prelude.{◌≡◌, ◌≤◌, Some, true, false};
 ghost use Rattle.cw_types.specs.Faults.{Rose};
+ghost use Rattle.cw_io.specs.Shelf.{Files};
+ghost use Rattle.cw_edges.specs.Poured.{poured};
 
 use crate::naming::Begun;
 use cw_io::Outlet;
@@ -20,6 +22,8 @@ impl<J: Begun, U: Outlet> Poured<J, U> {
     /// Before the threads.
     pub fn new(outlet: U) -> Poured<J, U>
         requires { J.faults ≡ U.faults outlet }
+        ensures outlet { result.outlet ≡ outlet }
+        ensures rose { result.rose ≡ false }
     {
         Poured {
             outlet,
@@ -30,7 +34,12 @@ impl<J: Begun, U: Outlet> Poured<J, U> {
 
     /// Puts the lines of a delivery into its file, and says whether that was done.
     #[tactic(auto, using(crate::proofs::Faults::rose_since))]
-    pub fn pour(&mut self, delivery: &Delivery) -> bool {
+    pub fn pour(&mut self, delivery: &Delivery) -> bool
+        ensures poured { result ≡ true → (held : Files) → U.files self.old.outlet ≡ Some held →
+            U.files self.new.outlet ≡ Some (poured delivery.now.file delivery.now.lines held) }
+        ensures noted { result ≡ false → self.new.rose ≡ true }
+        ensures kept { self.old.rose ≡ true → self.new.rose ≡ true }
+    {
         let poured = pour(delivery, &mut self.outlet).is_ok();
         if !poured {
             self.rose = true;

@@ -48,7 +48,9 @@ pub enum Gathered {
 
 impl<J: Begun, D: Disk, W: Wait + Drop> Shared<J, D, W> {
     /// How many instances there are; None where the server ends.
-    pub fn instances(&self) -> Option<u64> {
+    pub fn instances(&self) -> Option<u64>
+        ensures { IfSome result (λ count. count ≡ length self.now.state.instances) }
+    {
         if self.goes_on() {
             Some(self.world.cluster().instances())
         } else {

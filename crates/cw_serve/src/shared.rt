@@ -76,6 +76,7 @@ impl<J: Begun, D: Disk, W: Wait + Drop> Shared<J, D, W> {
         requires journal { (world.state.journal ≡ []) × (book.total ≡ 0) }
         requires board { (board.published ≡ []) × (board.given ≡ []) }
         requires given { given.items ≡ replicate J.workers 0 }
+        ensures { result ≡ world }
     {
         Shared {
             world,

@@ -29,12 +29,9 @@ use Rattle.cw_laws.proofs.AtWork.{HasSpec, has_spec, parts-spec}
 use Rattle.cw_laws.proofs.Lists.{each-at, each-weaker}
 use Rattle.cw_ticks.specs.Polled.{IsTopic}
 use Rattle.cw_sinktask.specs.Gathered.{HasFile}
+use Rattle.cw_laws.proofs.TaskParts.{then_some}
 
 -- ---- the file of a sink's config
-
-then-some : {A B : Type 0} (f : A → Option B) (o : Option A) (y : B) → option_and_then f o ≡ Some y → (x : A) × (o ≡ Some x) × (f x ≡ Some y)
-then-some f None y is = absurd (cc)
-then-some f (Some x) y is = (x, refl, is)
 
 map-some : {A B : Type 0} (f : A → B) (o : Option A) (y : B) → option_map f o ≡ Some y → (x : A) × (o ≡ Some x) × (f x ≡ y)
 map-some f None y is = absurd (cc)
@@ -48,11 +45,11 @@ module _ (connector : List ℕ) (props : List (List ℕ × List ℕ)) where
   stream-file : (batch : ℕ) (spec : TaskSpec) → with_fields connector props (idle_task FileStreamSink batch) (Outlet ∷ Topics ∷ []) ≡ Some spec → IsSome spec.file
   stream-file batch spec is =
       let idle = idle_task FileStreamSink batch in
-      let one = then-some (λ (next : TaskSpec). with_fields connector props next (Topics ∷ [])) (option_and_then (λ text. with_value connector idle Outlet text) (value_in props (key_of Outlet))) spec is in
-      let text = then-some (λ (t : List ℕ). with_value connector idle Outlet t) (value_in props (key_of Outlet)) one.0 one.1 in
+      let one = then_some (λ (next : TaskSpec). with_fields connector props next (Topics ∷ [])) (option_and_then (λ text. with_value connector idle Outlet text) (value_in props (key_of Outlet))) spec is in
+      let text = then_some (λ (t : List ℕ). with_value connector idle Outlet t) (value_in props (key_of Outlet)) one.0 one.1 in
       let file : record idle { file = Some text.0 } ≡ one.0 = if-some (is_name text.0) (record idle { file = Some text.0 }) one.0 text.2 in
-      let two = then-some (λ (next : TaskSpec). with_fields connector props next []) (option_and_then (λ t. with_value connector one.0 Topics t) (value_in props (key_of Topics))) spec one.2 in
-      let topics = then-some (λ (t : List ℕ). with_value connector one.0 Topics t) (value_in props (key_of Topics)) two.0 two.1 in
+      let two = then_some (λ (next : TaskSpec). with_fields connector props next []) (option_and_then (λ t. with_value connector one.0 Topics t) (value_in props (key_of Topics))) spec one.2 in
+      let topics = then_some (λ (t : List ℕ). with_value connector one.0 Topics t) (value_in props (key_of Topics)) two.0 two.1 in
       let parts = map-some (λ (parts : List PartKey). record (one.0) { parts = parts }) (parts_named connector Topics topics.0) two.0 topics.2 in
       let whole : two.0 ≡ spec = cc in
       subst (λ (k : TaskSpec). IsSome k.file) whole (subst (λ (k : TaskSpec). IsSome k.file) {x = record (one.0) { parts = parts.0 }} parts.2 (subst (λ (k : TaskSpec). IsSome k.file) {x = record idle { file = Some text.0 }} file refl))
@@ -73,8 +70,8 @@ module _ (connector : List ℕ) (props : List (List ℕ × List ℕ)) where
   fields-class : (fields : List Field) (spec done : TaskSpec) → with_fields connector props spec fields ≡ Some done → done.class ≡ spec.class
   fields-class [] spec done is = let same : spec ≡ done = cc in sym (ap (λ (k : TaskSpec). k.class) same)
   fields-class (field ∷ more) spec done is =
-      let next = then-some (λ (next : TaskSpec). with_fields connector props next more) (option_and_then (λ text. with_value connector spec field text) (value_in props (key_of field))) done is in
-      let text = then-some (λ (t : List ℕ). with_value connector spec field t) (value_in props (key_of field)) next.0 next.1 in
+      let next = then_some (λ (next : TaskSpec). with_fields connector props next more) (option_and_then (λ text. with_value connector spec field text) (value_in props (key_of field))) done is in
+      let text = then_some (λ (t : List ℕ). with_value connector spec field t) (value_in props (key_of field)) next.0 next.1 in
       fields-class more next.0 done next.2 ∙ value-class field text.0 spec next.0 text.2
 
   source-class : (class : Class) (spec : TaskSpec) → spec.class ≡ class → (row_of class).is_source ≡ true → (row_of spec.class).is_source ≡ false → IsSome spec.file
@@ -89,8 +86,8 @@ module _ (connector : List ℕ) (props : List (List ℕ × List ℕ)) where
 
   pub spec-file : (spec : TaskSpec) → task_of connector props ≡ Some spec → (row_of spec.class).is_source ≡ false → IsSome spec.file
   spec-file spec is =
-      let class = then-some (λ (class : Class). task_of_class connector props class) (option_and_then task_class_of (value_in props (codes "task.class"))) spec is in
-      let batch = then-some (λ (batch : ℕ). with_fields connector props (idle_task class.0 batch) (row_of class.0).fields) (task_batch props (row_of class.0)) spec class.2 in
+      let class = then_some (λ (class : Class). task_of_class connector props class) (option_and_then task_class_of (value_in props (codes "task.class"))) spec is in
+      let batch = then_some (λ (batch : ℕ). with_fields connector props (idle_task class.0 batch) (row_of class.0).fields) (task_batch props (row_of class.0)) spec class.2 in
       class-file class.0 batch.0 spec batch.2
 
 -- ---- a sink's task

@@ -5,9 +5,10 @@ use Rattle.std.proofs.lemmas.Bool.{le-leb, leb-true}
 use Rattle.std.proofs.lemmas.List.{length-take}
 use Rattle.cw_data.specs.declared.entry.DataEntry.{DataEntry}
 use Rattle.cw_data.specs.Log.{Record, taken, records, stable, marker_of, is_commit}
-use Rattle.cw_laws.proofs.Lists.{each-map, each-take}
+use Rattle.cw_laws.proofs.Lists.{each-map}
 use Rattle.cw_model.specs.Polls.{most_records, records_from}
 use Rattle.cw_sinktask.specs.Gathered.{values_of, place_behind}
+use Rattle.cw_data.proofs.Lists.{each_taken}
 
 -- a place from one on and below another
 pub record IsWithin (at end place : ℕ) : Type 0 where
@@ -221,7 +222,7 @@ module _ (topic : List ℕ) (log : List DataEntry) where
   taken-ends from o value is =
       let rest = left 1 (o + 1) in
       let all = subst (AllByRecursion (λ p. IsWithin from (stable topic log) p.0)) (left-more 0 from o value (omega (arith)) is)
-      (each-take (λ (p : ℕ × List ℕ). IsWithin from (stable topic log) p.0) most_records (records_from topic from log) (records-within from)) in
+      (each_taken (λ (p : ℕ × List ℕ). IsWithin from (stable topic log) p.0) most_records (records_from topic from log) (records-within from)) in
       let least : from ≤ o = all.0.least in
       let most : o < stable topic log = all.0.most in
       subst (λ (to : ℕ). (from < to) × (to ≤ stable topic log)) (next-place 0 from o value (omega (arith)) is)

@@ -1,6 +1,6 @@
 -- A task takes at least one record at a time, since its properties allow no batch of none; and one that polls and is no
 -- sink's is a source's.
-use Rattle.std.proofs.Common.{◌≡◌, ℕ, ◌<◌, ◌≤◌, ◌-◌, ◌^◌, List, [], ◌∷◌, Bool, true, false, not, cond, Option, Some, None, option_map, option_and_then, codes, refl, sym, ◌∙◌, ap, subst, arith}
+use Rattle.std.proofs.Common.{◌≡◌, ℕ, ◌<◌, ◌≤◌, ◌-◌, ◌^◌, List, [], ◌∷◌, Bool, true, false, cond, Option, Some, None, option_map, option_and_then, codes, refl, sym, ◌∙◌, ap, subst, arith}
 use Rattle.std.specs.Option.{IsSomeAnd, option_map_or}
 use Rattle.std.proofs.lemmas.Bool.Decides.{nat_tests}
 use Rattle.cw_types.specs.Decimal.{number_of}
@@ -26,15 +26,13 @@ use Rattle.cw_model.specs.FactsRows.{IsSoundInstance, IsOfItem, IsTaskSpecOf}
 use Rattle.cw_model.specs.Lookups.{instance_of}
 use Rattle.cw_model.specs.Phases.{is_working}
 use Rattle.cw_model.specs.Tasks.{batch_limit_of, is_source, is_sink}
+use Rattle.cw_laws.proofs.TaskParts.{then_some}
+use Rattle.cw_laws.proofs.TaskSteps.{source-or-sink}
 
 abbrev Props : Type 0
 Props = List (List ℕ × List ℕ)
 
 -- ---- what gives something
-
-then_some : {A B : Type 0} (f : A → Option B) (o : Option A) (y : B) → option_and_then f o ≡ Some y → (x : A) × (o ≡ Some x) × (f x ≡ Some y)
-then_some f None y is = cc
-then_some f (Some x) y is = (x, refl, is)
 
 -- ---- no property changes the batch
 
@@ -98,19 +96,6 @@ of-task connector (Some spec) asked = task-some connector asked.properties spec 
 works-some : (records : List ConfigRecord) (item : Item) (i : Instance) → is_working i.phase ≡ true → IsOfItem records item i → 0 < batch_limit_of i
 works-some records (Connector name) i works o = absurd (let idle : is_working i.phase ≡ false = o.idle in cc)
 works-some records (Task id) i works o = of-task id.connector i.task o.task
-
--- and is of a source or of a sink
-source-or-sink : (records : List ConfigRecord) (item : Item) (i : Instance) → is_working i.phase ≡ true → IsOfItem records item i → is_sink i ≡ false → is_source i ≡ true
-source-or-sink records (Connector name) i works o fails = absurd (let idle : is_working i.phase ≡ false = o.idle in cc)
-source-or-sink records (Task id) i works o fails = of (i.task) o.task fails where
-  other : (b : Bool) → not b ≡ false → b ≡ true
-  other true fails = refl
-  other false fails = absurd (cc)
-
-  of : (task : Option TaskSpec) → IsSomeAnd task (IsTaskSpecOf id.connector) → option_map_or (λ task. not (row_of task.class).is_source) task false ≡ false →
-      option_map_or (λ task. (row_of task.class).is_source) task false ≡ true
-  of None none fails = absurd none
-  of (Some task) some fails = other (row_of task.class).is_source fails
 
 module _ (setting : Setting) (s : Cluster) (i : ℕ) (facts : AreFacts setting s) where
   abbrev own : Instance

@@ -1,30 +1,17 @@
 -- What a scan finds is of one of the task's parts, and what a poll takes.
-use Rattle.std.proofs.Common.{if◌then◌else◌, ◌≡◌, ℕ, zero, suc, ◌+◌, ◌-◌, ◌<◌, ◌≤◌, Bool, true, false, min, length, Option, Some, None, refl, sym, ◌∙◌, ap, arith}
-use Rattle.std.specs.List.{AllByRecursion, range_with_len}
+use Rattle.std.proofs.Common.{if◌then◌else◌, ◌≡◌, ℕ, ◌-◌, ◌<◌, Bool, true, false, length, Option, Some, None, refl, sym, ◌∙◌, ap}
 use Rattle.cw_io.specs.Shelf.{Files}
 use Rattle.cw_feed.specs.declared.cut.CutAnswer.{CutAnswer}
-use Rattle.cw_laws.proofs.Lists.{each-append}
-use Rattle.cw_laws.proofs.TaskSteps.{found-holds}
+use Rattle.cw_laws.proofs.TaskSteps.{found-holds, turns-within}
 use Rattle.cw_model.specs.declared.instance.Instance.{Instance}
 use Rattle.cw_model.specs.State.{Setting, Cluster}
 use Rattle.cw_model.specs.Lookups.{instance_of}
-use Rattle.cw_model.specs.Polls.{turn_behind, turns_of, cut_at, is_something, source_turn, gathered}
+use Rattle.cw_model.specs.Polls.{turns_of, cut_at, is_something, source_turn, gathered}
 use Rattle.cw_model.specs.Steps.{takes_cut, polls_source, polls_sink, polls}
 use Rattle.cw_model.specs.Tasks.{parts_of, is_sink}
 use Rattle.cw_sourcetask.specs.Sourced.{found_at, scan}
 
 -- ---- it is of a part
-
-range-within : (a n top : ℕ) → a + n ≤ top → AllByRecursion (λ x. x < top) (range_with_len a n)
-range-within a zero top fits = tt
-range-within a (suc n) top fits = (omega arith, range-within (a + 1) n top (omega arith))
-
-turns-within : (i : Instance) → AllByRecursion (λ turn. turn < length (parts_of i)) (turns_of i)
-turns-within i =
-    let first : ℕ = turn_behind i.last in
-    let count : ℕ = length (parts_of i) in
-    each-append (λ turn. turn < count) (range_with_len (min first count) (count - first)) (range_with_len 0 (min first count))
-    (range-within (min first count) (count - first) count (omega arith)) (range-within 0 (min first count) count (omega arith))
 
 pub turn-within : (feeds : Files) (i : Instance) (turn : ℕ) → source_turn feeds i ≡ Some turn → turn < length (parts_of i)
 turn-within feeds i turn is =

@@ -9,6 +9,7 @@ use Rattle.std.proofs.Math.Seq.{get_or-append_seam}
 use Rattle.std.proofs.lemmas.Iterator.Adapters.{position_from-zero}
 use Rattle.cw_rows.specs.Crew.{with_place, places_from}
 use Rattle.cw_rows.proofs.Places.{reads-places, length-one}
+use Rattle.cw_data.proofs.Lists.{find-filter}
 
 -- ---- one test behind another
 
@@ -48,11 +49,6 @@ found-kept : {A : Type 0} (q : A → Bool) (b : Bool) (x : A) (xs : List A) (y :
     find q (cond b (x ∷ xs) xs) ≡ cond (b && q x) (Some x) y
 found-kept {A} q true x xs y same = ap (λ (o : Option A). cond (q x) (Some x) o) same
 found-kept q false x xs y same = same
-
-pub find-filtered : {A : Type 0} (p q : A → Bool) (xs : List A) → find q (filter p xs) ≡ find (λ x. p x && q x) xs
-find-filtered p q [] = refl
-find-filtered p q (x ∷ xs) =
-    found-kept q (p x) x (filter p xs) (find (λ y. p y && q y) xs) (find-filtered p q xs)
 
 found-alike : {A : Type 0} (b c : Bool) (x : A) (y z : Option A) → b ≡ c → y ≡ z → cond b (Some x) y ≡ cond c (Some x) z
 found-alike {A} b c x y z same rest = ap (λ (d : Bool). cond d (Some x) y) same ∙ ap (λ (o : Option A). cond c (Some x) o) rest
@@ -98,7 +94,7 @@ pub finds-second : {A : Type 0} (test second : A → Bool) (d : A) (xs : List A)
     find (λ x. test x && second x) xs
 finds-second test second d xs =
     sym (find-mapped (λ n. get_or xs n d) second (places_from 0 test xs)) ∙
-    ap (find second) (members-at test d xs) ∙ find-filtered test second xs
+    ap (find second) (members-at test d xs) ∙ find-filter test second xs
 
 -- ---- the place of the first that passes both tests
 

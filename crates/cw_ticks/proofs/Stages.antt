@@ -7,6 +7,7 @@ use Rattle.cw_model.specs.State.{Cluster}
 use Rattle.cw_model.specs.Lookups.{row_of}
 use Rattle.cw_model.specs.TickRules.{Rule, rule}
 use Rattle.cw_model.specs.Tick.{first_rule, rules, deaf_rules, rule_for}
+use Rattle.cw_offset.proofs.Replays.{option_or-assoc}
 
 -- ---- rule by rule
 
@@ -16,19 +17,11 @@ finds {A} o does later x is = ap (λ (p : Option A). first_rule (rule p does ∷
 
 -- ---- stage by stage
 
-or-or : {A : Type 0} (a b c : Option A) → option_or (option_or a b) c ≡ option_or a (option_or b c)
-or-or None b c = refl
-or-or (Some x) b c = refl
-
-pub or-none : {A : Type 0} (a : Option A) → option_or a None ≡ a
-or-none None = refl
-or-none (Some x) = refl
-
 -- the first rule of some, or else of others
 pub first_rule-append : (earlier later : List Rule) → first_rule (earlier ++ later) ≡ option_or (first_rule earlier) (first_rule later)
 first_rule-append [] later = refl
 first_rule-append (r ∷ earlier) later =
-    ap (option_or r) (first_rule-append earlier later) ∙ sym (or-or r (first_rule earlier) (first_rule later))
+    ap (option_or r) (first_rule-append earlier later) ∙ sym (option_or-assoc r (first_rule earlier) (first_rule later))
 
 pub or-some : {A : Type 0} (a b : Option A) → IsSome a → option_or a b ≡ a
 or-some None b is = absurd (cc)

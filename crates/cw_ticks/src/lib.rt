@@ -28,7 +28,7 @@ pub use marks::mark_applies;
 pub use polls::{cut_at, is_sink, parts_of, position_at, source_turn};
 pub use proposals::{Proposal, are_deferred, proposal_of, propose_applies, ready};
 pub use reading::read_applies;
-pub use records::{commit_records, task_records};
+pub use records::{commit_values, task_records};
 pub use reporting::{report_applies, state_of};
 pub use rounds::{close_applies, join_applies, lead_applies, plan_applies, sync_applies};
 pub use sink_polls::sink_turn;

@@ -3,10 +3,11 @@ ghost use Rattle.std.specs.Prelude.{◌≡◌, ◌<◌, [], length, IfOk, option
 ghost use Rattle.std.specs.List.{find, filter_map};
 ghost use Rattle.cw_model.specs.ConfigsAllowed.{AreAllowedConfigs};
 ghost use Rattle.cw_model.specs.EventsItems.{is_active};
-ghost use Rattle.cw_model.specs.Proposals.{proposal_of, is_stopped, needs_tasks, are_deferred};
+ghost use Rattle.cw_model.specs.Proposals.{proposal_of, needs_tasks, are_deferred};
 ghost use Rattle.cw_model.specs.Ready.{ready, leads_round, leader_for, connector_in};
 ghost use Rattle.cw_model.specs.TickRules.{propose_applies};
 ghost use Rattle.cw_ticks.specs.Proposed.{AreFaultless, proposing};
+ghost use Rattle.cw_rest.specs.Replies.{is_stopped};
 
 use crate::phases::{is_stable_in, leads};
 use crate::task_sets::{has_deferred, has_tasks};

@@ -1,7 +1,8 @@
 //! The records that a proposal is written as (Connect's task configs and commit records in the config topic).
 ghost use Rattle.std.specs.Prelude.{◌≡◌, ◌≤◌, ◌-◌, ◌^◌, length, IfOk};
-ghost use Rattle.cw_model.specs.Proposals.{commit_records, task_records};
+ghost use Rattle.cw_model.specs.Proposals.{task_records};
 ghost use Rattle.cw_ticks.specs.Proposed.{task_record};
+ghost use Rattle.cw_rest.specs.Operations.{commit_values};
 
 use cw_json::Props;
 use cw_keys::{ConfigKey, ConfigValue};
@@ -42,12 +43,12 @@ fn task_record(
 }
 
 /// The record that commits so many tasks of a connector.
-pub fn commit_records(
+pub fn commit_values(
     alloc: Global,
     name: &Name,
     count: u32,
 ) -> Result<Vec<(ConfigKey, Option<ConfigValue>)>, AllocError>
-    ensures { IfOk result (λ records. records.items ≡ commit_records name.now count) }
+    ensures { IfOk result (λ records. records.items ≡ commit_values name.now count) }
 {
     let mut records = Vec::new(alloc);
     records.push((

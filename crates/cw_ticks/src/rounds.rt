@@ -4,10 +4,10 @@ ghost use Rattle.std.specs.Prelude.{◌==◌, false};
 ghost use Rattle.std.specs.Option.{option_map_or};
 ghost use Rattle.cw_group.specs.Members.{member_of, lowest_in};
 ghost use Rattle.cw_group.specs.Phases.{is_open};
-ghost use Rattle.cw_model.specs.EventsGroups.{is_due};
 ghost use Rattle.cw_model.specs.Lookups.{row_of};
 ghost use Rattle.cw_model.specs.TickRules.{has_not_joined, same_items, is_settled, is_to_plan};
 ghost use Rattle.cw_model.specs.TickRules.{join_applies, close_applies, plan_applies, sync_applies, lead_applies};
+ghost use Rattle.cw_group.specs.Circle.{is_due};
 
 use crate::configured::is_same;
 use crate::phases::{is_closed, is_open, is_planned, is_stable_in, leads};

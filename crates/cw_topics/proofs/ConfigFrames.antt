@@ -1,6 +1,6 @@
 -- The records of a frame of the config log: which offsets they get, and how many bytes they have.
 use Rattle.std.proofs.Common.{◌≡◌, ℕ, suc, ◌+◌, ◌<◌, ◌≤◌, ◌^◌, ◌++◌, ◌∷◌, [], ◌&&◌, Bool, true, false, nat_lt, nat_le, if◌then◌else◌, List, Option, Some, None, length, map, refl, sym, ap, subst, ◌∙◌, Result, Ok, Err, IfOk, Bor, option_map, option_copied, arith, append_assoc, length-append}
-use Rattle.std.proofs.lemmas.Bool.{leb-false, leb-true}
+use Rattle.std.proofs.lemmas.Bool.{leb-false, leb-true, and_from, and_right, and_left}
 use Rattle.std.proofs.lemmas.Bool.Decides.{nat_tests}
 use Rattle.std.specs.List.{AllByRecursion, flat_map}
 use Rattle.cw_bytes.specs.declared.applied.Applied.{Applied}
@@ -15,18 +15,6 @@ use Rattle.cw_model.specs.Bodies.{config_applied, config_body}
 use Rattle.cw_model.specs.ConfigsAllowed.{AreAllowedConfigs}
 use Rattle.cw_topics.specs.Configs.{recorded, records_from, first_of, have_offsets, IsWritable, IsWritableRecord}
 
-both : (a b : Bool) → a ≡ true → b ≡ true → (a && b) ≡ true
-both true b is e = e
-both false b is e = absurd (cc)
-
-not-first : (a b : Bool) → a ≡ false → (a && b) ≡ false
-not-first true b is = absurd (cc)
-not-first false b is = refl
-
-not-last : (a b : Bool) → b ≡ false → (a && b) ≡ false
-not-last true b is = is
-not-last false b is = refl
-
 below : (n : ℕ) → n < 2 ^ 64 → nat_lt n (2 ^ 64) ≡ true
 below n fits = grind (arith, nat_tests)
 
@@ -37,15 +25,15 @@ not-below n past = grind (arith, nat_tests)
 pub offsets-fit : (first stamp : ℕ) (values : KeyedValues) → first + length values ≤ 2 ^ 64 →
     have_offsets (records_from first stamp values) ≡ true
 offsets-fit first stamp [] fits = refl
-offsets-fit first stamp (value ∷ values) fits = both (nat_lt first (2 ^ 64)) _ (below first (omega arith))
+offsets-fit first stamp (value ∷ values) fits = and_from (nat_lt first (2 ^ 64)) _ (below first (omega arith))
     (offsets-fit (first + 1) stamp values (omega arith))
 
 -- where it hasn't, not each has
 pub offsets-lack : (first stamp : ℕ) (values : KeyedValues) → 1 ≤ length values → 2 ^ 64 < first + length values →
     have_offsets (records_from first stamp values) ≡ false
 offsets-lack first stamp [] some past = absurd (omega arith)
-offsets-lack first stamp (value ∷ []) some past = not-first (nat_lt first (2 ^ 64)) true (not-below first (omega arith))
-offsets-lack first stamp (value ∷ other ∷ values) some past = not-last (nat_lt first (2 ^ 64)) _
+offsets-lack first stamp (value ∷ []) some past = and_left (nat_lt first (2 ^ 64)) true (not-below first (omega arith))
+offsets-lack first stamp (value ∷ other ∷ values) some past = and_right (nat_lt first (2 ^ 64)) _
     (offsets-lack (first + 1) stamp (other ∷ values) (omega arith) (omega arith))
 
 -- ---- their bytes

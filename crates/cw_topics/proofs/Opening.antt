@@ -18,6 +18,7 @@ use Rattle.cw_model.specs.ConfigsAllowed.{AreAllowedConfigs, FitsBehind}
 use Rattle.cw_model.specs.Bodies.{statuses_in, status_in}
 use Rattle.cw_model.specs.State.{StampedStatus}
 use Rattle.cw_topics.specs.Statuses.{StatusList}
+use Rattle.std.proofs.lemmas.Bool.{and_from}
 
 -- ---- a list that is made of the parts of others, behind what stood there
 
@@ -79,14 +80,10 @@ backed-by : (before : List ConfigRecord) (k : ConfigKey) (v : Option ConfigValue
 backed-by before (key.Commit name) (Some (value.Commit count)) fits = fits.tasks
 backed-by before k v fits = refl
 
-both : (a b : Bool) → a ≡ true → b ≡ true → (a && b) ≡ true
-both true b is also = also
-both false b is also = absurd (cc)
-
 -- records that may stand where they do are accepted
 pub accepted-allowed : (before xs : List ConfigRecord) → AreAllowedConfigs before xs → AreAccepted before xs
 accepted-allowed before [] allowed = tt
 accepted-allowed before (x ∷ xs) allowed =
     let above : end_of before ≤ x.offset = allowed.0.rising in
     let is : leb (end_of before) x.offset ≡ true = grind (arith, nat_tests) in
-    (both (leb (end_of before) x.offset) (is_backed before x.key x.value) is (backed-by before x.key x.value allowed.0.fits), accepted-allowed (before ++ x ∷ []) xs allowed.1)
+    (and_from (leb (end_of before) x.offset) (is_backed before x.key x.value) is (backed-by before x.key x.value allowed.0.fits), accepted-allowed (before ++ x ∷ []) xs allowed.1)

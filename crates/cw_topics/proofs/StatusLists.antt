@@ -22,14 +22,7 @@ use Rattle.cw_model.specs.State.{StampedStatus}
 use Rattle.cw_model.specs.Bodies.{status_applied, status_body, frame_of, has_room}
 use Rattle.cw_model.specs.Updates.{is_offset}
 use Rattle.cw_topics.specs.Statuses.{IsStatusList, HasNoRoom, next_in, offset_from}
-
-not-second : (a b : Bool) → b ≡ false → (a && b) ≡ false
-not-second true b is = is
-not-second false b is = refl
-
-not-first : (a b : Bool) → a ≡ false → (a && b) ≡ false
-not-first true b is = absurd (cc)
-not-first false b is = refl
+use Rattle.std.proofs.lemmas.Bool.{and_right, and_left}
 
 -- ---- the list of statuses
 
@@ -133,7 +126,7 @@ pub no-offset : (size frame : ℕ) (r : StampedStatus) (why : WorldFault) (key v
     HasNoRoom size r why
 no-offset size frame r why key value key-is value-is none long is = record {
   told = is ∙ ap (λ (n : ℕ). Full Status size n) (omega (arith, long, length-body r key value key-is value-is));
-  none = not-first (is_offset r.status.offset) (has_room size (frame_of (status_body (r ∷ [])))) (never (is_offset r.status.offset) r.status.offset none);
+  none = and_left (is_offset r.status.offset) (has_room size (frame_of (status_body (r ∷ [])))) (never (is_offset r.status.offset) r.status.offset none);
 }
   where
     never : (b : Bool) (n : ℕ) → (if b then Some n else None) ≡ None → b ≡ false
@@ -146,7 +139,7 @@ pub too-long : (size frame : ℕ) (r : StampedStatus) (why : WorldFault) (key va
     HasNoRoom size r why
 too-long size frame r why key value key-is value-is much long is = record {
   told = is ∙ ap (λ (n : ℕ). Full Status size n) (omega (arith, long, length-body r key value key-is value-is));
-  none = not-second (is_offset r.status.offset) (has_room size (frame_of (status_body (r ∷ []))))
+  none = and_right (is_offset r.status.offset) (has_room size (frame_of (status_body (r ∷ []))))
       (over (size + frame_of (status_body (r ∷ []))) (omega (arith, much, length-body r key value key-is value-is)));
 }
   where

@@ -21,6 +21,7 @@ use Rattle.cw_txn.specs.Transactions.{Transactions, Appends, UsesUp}
 use Rattle.cw_topics.specs.Entries.{with_entry}
 use Rattle.cw_topics.proofs.Counts.{all_records-few, values-few}
 use Rattle.cw_topics.proofs.Putting.{each-at, each-behind}
+use Rattle.cw_log.proofs.Replaced.{length_of-some}
 
 -- ---- one entry
 
@@ -131,10 +132,6 @@ length_of-append : (xs ys : List (List ℕ)) → length_of (xs ++ ys) + 17 ≡ l
 length_of-append [] ys = omega arith
 length_of-append (x ∷ xs) ys = omega (arith, length_of-append xs ys)
 
-some-bytes : (xs : List (List ℕ)) → 17 ≤ length_of xs
-some-bytes [] = omega arith
-some-bytes (x ∷ xs) = omega (arith, some-bytes xs)
-
 -- where a disk can hold the log with a batch, the records of its topic can be counted
 pub records-countable : (batch : Batch) (log : List DataEntry) → length_of (map entry_bytes (log ++ InBatch batch ∷ [])) < 2 ^ 64 →
     length (records batch.topic log) + length batch.values < 2 ^ 64
@@ -146,7 +143,7 @@ records-countable batch log fits =
 pub part-fits : (log : List DataEntry) (behind whole : List DataEntry) → whole ≡ log ++ behind → length_of (map entry_bytes whole) < 2 ^ 64 → length_of (map entry_bytes log) < 2 ^ 64
 part-fits log behind whole split fits =
     let parts : map entry_bytes whole ≡ map entry_bytes log ++ map entry_bytes behind = ap (map entry_bytes) split ∙ map-append entry_bytes log behind in
-    omega (arith, fits, ap length_of parts, length_of-append (map entry_bytes log) (map entry_bytes behind), some-bytes (map entry_bytes behind))
+    omega (arith, fits, ap length_of parts, length_of-append (map entry_bytes log) (map entry_bytes behind), length_of-some (map entry_bytes behind))
 
 -- the next one to be added, with those before it, is a part of all
 pub next-within : (whole rest : List DataEntry) (now : DataLog) (x : DataEntry) (left : List DataEntry) → IsAdded whole rest now → rest ≡ x ∷ left →

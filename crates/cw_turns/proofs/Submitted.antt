@@ -28,11 +28,12 @@ use Rattle.cw_run.specs.Reaches.{Reaches, HaveNames}
 use Rattle.cw_run.proofs.BodyTexts.{call-written}
 use Rattle.cw_run.proofs.Living.{answers-lives, has-written-open}
 use Rattle.cw_run.proofs.Reaching.{stays, makes, goes_on}
-use Rattle.cw_run.proofs.RequestRuns.{answers-run, configs-may, ready-leads, sets-may}
+use Rattle.cw_run.proofs.RequestRuns.{answers-run, configs-may, sets-may}
 use Rattle.cw_desk.specs.Turns.{IsTurn, Keeps, entry_of}
 use Rattle.cw_desk.proofs.Submitted.{may-keep}
 use Rattle.cw_turns.specs.Going.{Start, IsBroken, GoesOn}
 use Rattle.cw_turns.proofs.Going.{acts-on, opens-on}
+use Rattle.cw_laws.proofs.Proposed.{ready-leads}
 
 -- ---- a call that has written
 

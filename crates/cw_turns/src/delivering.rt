@@ -18,8 +18,8 @@ use cw_types::PartKey;
 use cw_world::World;
 
 /// The world learns that a sink's task has handed out what it gathered. Where the task no longer polls at the place
-/// that was gathered, nothing is done, and the answer is false: a later step hands the records out again. Where it polls
-/// a topic there, which is stable so far, it is done.
+/// that was gathered, nothing is done, and the answer is false: a later step hands the records out again. Where it
+/// polls a topic there, which is stable so far, it is done.
 pub fn deliver<D: Disk>(world: &mut World<D>, i: u64, delivery: &Delivery) -> bool
     requires there { i < length world.old.state.instances }
     requires alive { world.old.state.closed ≡ None }

@@ -1,7 +1,7 @@
 //! Bodies of the transaction log.
 ghost use Rattle.std.specs.Prelude.{◌≡◌, ◌≢◌, ◌++◌, List, length, Some, None, Ok, Err, IfOk, OnOk, MatchResult, ◌<◌};
 ghost use Rattle.std.specs.Prelude.{◌^◌};
-ghost use Rattle.cw_bytes.specs.Reading.{Gives, many_at, span_at};
+ghost use Rattle.cw_bytes.specs.Reading.{Reads, many_at, span_at};
 ghost use Rattle.cw_txn.specs.declared.entry.Entry.{Entry};
 ghost use Rattle.cw_txn.specs.declared.body.BodyFault.{BodyFault};
 ghost use Rattle.cw_txn.specs.Body.{entries_bytes, entry_bytes, set_bytes, list_bytes, IsEntry, IsSet, IsList};
@@ -51,14 +51,14 @@ impl From<FieldFault> for BodyFault {
 
 #[tactic(auto, unfolding(crate::specs::BodyReading::some_offset_at))]
 fn read_some_offset(from: &mut Reader<'_>) -> Result<Option<u64>, FieldFault>
-    ensures { Gives (λ to. (to, from.new)) result (some_offset_at from.old) }
+    ensures { Reads (λ to. (to, from.new)) result (some_offset_at from.old) }
 {
     Ok(Some(from.take_u64()?))
 }
 
 #[tactic(auto, unfolding(crate::specs::BodyReading::offset_at))]
 fn read_offset(from: &mut Reader<'_>) -> Result<Option<u64>, FieldFault>
-    ensures { Gives (λ to. (to, from.new)) result (offset_at from.old) }
+    ensures { Reads (λ to. (to, from.new)) result (offset_at from.old) }
 {
     let kind = from.take_u8()?;
     match kind {
@@ -70,7 +70,7 @@ fn read_offset(from: &mut Reader<'_>) -> Result<Option<u64>, FieldFault>
 
 #[tactic(auto, unfolding(crate::specs::BodyReading::set_at))]
 fn read_set(alloc: Global, from: &mut Reader<'_>) -> Result<SetOffset, FieldFault>
-    ensures { Gives (λ set. (set, from.new)) result (set_at from.old) }
+    ensures { Reads (λ set. (set, from.new)) result (set_at from.old) }
 {
     let part = read_part(alloc, from)?;
     let to = read_offset(from)?;
@@ -82,7 +82,7 @@ fn read_many_spans(
     count: u32,
     from: &mut Reader<'_>,
 ) -> Result<Vec<Span>, FieldFault>
-    ensures { Gives (λ spans. (spans.items, from.new)) result (many_at span_at count from.old) }
+    ensures { Reads (λ spans. (spans.items, from.new)) result (many_at span_at count from.old) }
 {
     let mut spans = Vec::with_capacity(alloc, count.min(MOST_AT_ONCE) as usize)?;
     for _ in 0..count {
@@ -97,7 +97,7 @@ fn read_many_sets(
     count: u32,
     from: &mut Reader<'_>,
 ) -> Result<Vec<SetOffset>, FieldFault>
-    ensures { Gives (λ list. (list.items, from.new)) result (many_at set_at count from.old) }
+    ensures { Reads (λ list. (list.items, from.new)) result (many_at set_at count from.old) }
 {
     let mut list = Vec::new(alloc);
     for _ in 0..count {
@@ -112,7 +112,7 @@ fn read_many_entries(
     count: u32,
     from: &mut Reader<'_>,
 ) -> Result<Vec<Entry>, FieldFault>
-    ensures { Gives (λ entries. (entries.items, from.new)) result (many_at entry_at count from.old) }
+    ensures { Reads (λ entries. (entries.items, from.new)) result (many_at entry_at count from.old) }
 {
     let mut entries = Vec::with_capacity(alloc, count.min(MOST_AT_ONCE) as usize)?;
     for _ in 0..count {
@@ -124,7 +124,7 @@ fn read_many_entries(
 
 #[tactic(auto, unfolding(crate::specs::BodyReading::list_at))]
 fn read_spans(alloc: Global, from: &mut Reader<'_>) -> Result<Listed<Span>, FieldFault>
-    ensures { Gives (λ spans. (spans, from.new)) result (list_at span_at from.old) }
+    ensures { Reads (λ spans. (spans, from.new)) result (list_at span_at from.old) }
 {
     let count = from.take_u32()?;
     let spans = read_many_spans(alloc, count, from)?;
@@ -133,7 +133,7 @@ fn read_spans(alloc: Global, from: &mut Reader<'_>) -> Result<Listed<Span>, Fiel
 
 #[tactic(auto, unfolding(crate::specs::BodyReading::list_at))]
 fn read_sets(alloc: Global, from: &mut Reader<'_>) -> Result<Listed<SetOffset>, FieldFault>
-    ensures { Gives (λ list. (list, from.new)) result (list_at set_at from.old) }
+    ensures { Reads (λ list. (list, from.new)) result (list_at set_at from.old) }
 {
     let count = from.take_u32()?;
     let list = read_many_sets(alloc, count, from)?;
@@ -142,7 +142,7 @@ fn read_sets(alloc: Global, from: &mut Reader<'_>) -> Result<Listed<SetOffset>, 
 
 #[tactic(auto, unfolding(crate::specs::BodyReading::bump_at))]
 fn read_bump(alloc: Global, from: &mut Reader<'_>) -> Result<Entry, FieldFault>
-    ensures { Gives (λ entry. (entry, from.new)) result (bump_at from.old) }
+    ensures { Reads (λ entry. (entry, from.new)) result (bump_at from.old) }
 {
     let tid = read_tid(alloc, from)?;
     Ok(Entry::Bump(tid))
@@ -150,7 +150,7 @@ fn read_bump(alloc: Global, from: &mut Reader<'_>) -> Result<Entry, FieldFault>
 
 #[tactic(auto, unfolding(crate::specs::BodyReading::commit_at, crate::specs::BodyReading::spans_at))]
 fn read_commit(alloc: Global, from: &mut Reader<'_>) -> Result<Entry, FieldFault>
-    ensures { Gives (λ entry. (entry, from.new)) result (commit_at from.old) }
+    ensures { Reads (λ entry. (entry, from.new)) result (commit_at from.old) }
 {
     let tag = read_tag(alloc, from)?;
     let generation = from.take_u64()?;
@@ -164,7 +164,7 @@ fn read_commit(alloc: Global, from: &mut Reader<'_>) -> Result<Entry, FieldFault
 
 #[tactic(auto, unfolding(crate::specs::BodyReading::set_entry_at, crate::specs::BodyReading::sets_at))]
 fn read_set_entry(alloc: Global, from: &mut Reader<'_>) -> Result<Entry, FieldFault>
-    ensures { Gives (λ entry. (entry, from.new)) result (set_entry_at from.old) }
+    ensures { Reads (λ entry. (entry, from.new)) result (set_entry_at from.old) }
 {
     let tid = read_tid(alloc, from)?;
     let epoch = Epoch(from.take_u64()?);
@@ -175,7 +175,7 @@ fn read_set_entry(alloc: Global, from: &mut Reader<'_>) -> Result<Entry, FieldFa
 /// An entry at the front of what is left.
 #[tactic(auto, unfolding(crate::specs::BodyReading::entry_at))]
 pub fn read_entry(alloc: Global, from: &mut Reader<'_>) -> Result<Entry, FieldFault>
-    ensures { Gives (λ entry. (entry, from.new)) result (entry_at from.old) }
+    ensures { Reads (λ entry. (entry, from.new)) result (entry_at from.old) }
 {
     let kind = from.take_u8()?;
     match kind {
@@ -189,7 +189,7 @@ pub fn read_entry(alloc: Global, from: &mut Reader<'_>) -> Result<Entry, FieldFa
 /// How many entries a body has, which are some.
 #[tactic(auto, unfolding(crate::specs::BodyReading::count_at))]
 pub fn read_count(from: &mut Reader<'_>) -> Result<u32, FieldFault>
-    ensures { Gives (λ count. (count, from.new)) result (count_at from.old) }
+    ensures { Reads (λ count. (count, from.new)) result (count_at from.old) }
 {
     let count = from.take_u32()?;
     if count == 0 {
@@ -200,7 +200,7 @@ pub fn read_count(from: &mut Reader<'_>) -> Result<u32, FieldFault>
 
 #[tactic(auto, unfolding(crate::specs::BodyReading::entries_at))]
 fn read_all(alloc: Global, from: &mut Reader<'_>) -> Result<Vec<Entry>, FieldFault>
-    ensures { Gives (λ entries. (entries.items, from.new)) result (entries_at from.old) }
+    ensures { Reads (λ entries. (entries.items, from.new)) result (entries_at from.old) }
 {
     let count = read_count(from)?;
     read_many_entries(alloc, count, from)

@@ -1,7 +1,7 @@
 //! One walk over the entries of a log, which fills the tables of a coordinator.
 ghost use Rattle.std.specs.Prelude.{◌≡◌, ◌≢◌, ◌↔◌, ◌+◌, ◌<◌, ◌^◌, ◌++◌, ◌∷◌, [], ℕ, List, length, replicate};
 ghost use Rattle.std.specs.Prelude.{slice_index_or, Some, None, Err, IfOk, IfErr, OnOk, OnErr, MatchResult};
-ghost use Rattle.cw_bytes.specs.Reading.{Gives, many_at};
+ghost use Rattle.cw_bytes.specs.Reading.{Reads, many_at};
 ghost use Rattle.cw_types.specs.declared.ids.PartKey.{PartKey};
 ghost use Rattle.cw_txn.specs.declared.entry.Entry.{Entry};
 ghost use Rattle.cw_txn.specs.declared.body.BodyFault.{BodyFault};
@@ -171,7 +171,7 @@ impl Walk {
         from: &mut Reader<'_>,
     ) -> Result<Past<Entry>, FieldFault>
         requires { Walked self.old }
-        ensures read { Gives (λ group. (group.items, from.new)) result (entries_at from.old) }
+        ensures read { Reads (λ group. (group.items, from.new)) result (entries_at from.old) }
         ensures took { IfOk result (λ group. Took group.items gate self.old self.new) }
     {
         let count = read_count(from)?;
@@ -187,7 +187,7 @@ impl Walk {
         from: &mut Reader<'_>,
     ) -> Result<Past<Entry>, FieldFault>
         requires { Walked self.old }
-        ensures read { Gives (λ group. (group.items, from.new)) result (many_at entry_at count from.old) }
+        ensures read { Reads (λ group. (group.items, from.new)) result (many_at entry_at count from.old) }
         ensures took { IfOk result (λ group. Took group.items gate self.old self.new) }
     {
         let mut group = Past::new();

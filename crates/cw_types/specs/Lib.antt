@@ -9,4 +9,3 @@ pub mod Same
 pub mod Verdict
 pub mod Task
 pub mod Answers
-pub mod Pieces

@@ -8,7 +8,7 @@ use Rattle.clap.specs.Words.{Row, Text, fault_of, first_of, subcommand_of}
 use Rattle.cw_types.specs.Decimal.{number_of}
 use Rattle.cw_words.specs.Asked.{IsInRange, IsMadeInRange, IsServedInRange, command_in, command_of, gen_options_of, most_delay, most_directives}
 use Rattle.cw_words.specs.Asked.{most_conns, most_threads, serve_options_of, sizes_of, threads_in}
-use Rattle.cw_words.specs.Asked.{name_in, number_between, number_in, options_of, script_of, unless_fault}
+use Rattle.cw_words.specs.Asked.{name_in, number_between, number_in, options_of, script_of, where_taken}
 use Rattle.cw_words.specs.Program.{program}
 use Rattle.cw_words.specs.declared.command.Command.{Command}
 use Rattle.cw_words.specs.declared.command.Command.TheVariants.{Drive, Audit, Gen, Serve}
@@ -148,7 +148,7 @@ named (Some p) = let options = in_range_options p.1 in
     (made (bytes_eq p.0 (codes "gen")) (gen_options_of p.1) _ (in_range_script p.1)
     (served (bytes_eq p.0 (codes "serve")) (serve_options_of p.1) (in_range_server p.1))))
 
-unless : (ks : Kinds) (o : Option Command) → IfSome o IsInRange → IfSome (unless_fault ks o) IsInRange
+unless : (ks : Kinds) (o : Option Command) → IfSome o IsInRange → IfSome (where_taken ks o) IsInRange
 unless [] o h = h
 unless (k ∷ ks) o h = tt
 

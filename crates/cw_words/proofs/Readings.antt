@@ -11,7 +11,7 @@ use Rattle.cw_types.specs.Answers.{Gives}
 use Rattle.clap.specs.Simple.{subcommand_rows}
 use Rattle.cw_words.specs.declared.command.Command.TheVariants.{Audit, Drive}
 use Rattle.clap.specs.declared.parser.matches.ArgMatches.TheViews.{out-ArgMatches}
-use Rattle.cw_words.specs.Asked.{command_in, command_of, numbered_command_named, options_of, or_usage, unless_fault}
+use Rattle.cw_words.specs.Asked.{command_in, command_of, numbered_command_named, options_of, or_usage, where_taken}
 use Rattle.cw_words.specs.Program.{program}
 use Rattle.cw_words.specs.declared.command.Command.{Command}
 use Rattle.cw_words.specs.declared.command.WordsFault.{WordsFault}
@@ -32,10 +32,10 @@ taken a words m is found free =
     let none : fault_of program words ≡ [] = subst (λ (b : App). fault_of b words ≡ []) is (free (ap is_simple_and_free is ∙ program_is_free)) in
     let rows : subcommand_rows_of m ≡ subcommand_of program words =
     (found (ap is_simple is ∙ program_is_simple)).1 ∙ ap (λ (b : App). subcommand_of b words) is in
-    ap command_in rows ∙ sym (ap (λ (ks : Kinds). unless_fault ks (command_in (subcommand_of program words))) none)
+    ap command_in rows ∙ sym (ap (λ (ks : Kinds). where_taken ks (command_in (subcommand_of program words))) none)
 
 -- words that are refused are no command
-among : (k : ErrorKind) (ks : Kinds) (o : Option Command) → IsAmong k ks → unless_fault ks o ≡ None
+among : (k : ErrorKind) (ks : Kinds) (o : Option Command) → IsAmong k ks → where_taken ks o ≡ None
 among k [] o h = absurd h
 among k (x ∷ xs) o h = refl
 

@@ -99,13 +99,13 @@ abbrev pub command_in : Option (Text × List Row) → Option Command
 command_in = option_and_then command_named
 
 -- nothing is asked for where `clap` has a fault
-abbrev pub unless_fault : Kinds → Option Command → Option Command
-unless_fault [] asked = asked
-unless_fault (kind ∷ kinds) asked = None
+abbrev pub where_taken : Kinds → Option Command → Option Command
+where_taken [] asked = asked
+where_taken (kind ∷ kinds) asked = None
 
 -- the command that words are, where `clap` takes them
 abbrev pub command_of : List Text → Option Command
-command_of words = unless_fault (fault_of program words) (command_in (subcommand_of program words))
+command_of words = where_taken (fault_of program words) (command_in (subcommand_of program words))
 
 -- the numbers of `gen` are in their ranges
 pub record IsMadeInRange (options : GenOptions) : Type 0 where

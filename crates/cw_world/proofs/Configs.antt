@@ -1,5 +1,5 @@
 -- What stands in the config log behind an event that writes records may stand there, by the event's law.
-use Rattle.std.proofs.Common.{◌≡◌, ℕ, ◌≤◌, ◌++◌, [], ◌∷◌, true, zero, suc, List, length, slice_index_or, Ok, refl, sym, append-nil, append_assoc, ap, subst, arith}
+use Rattle.std.proofs.Common.{◌≡◌, ℕ, ◌≤◌, ◌++◌, [], ◌∷◌, true, zero, suc, List, length, slice_index_or, Ok, refl, ap, subst, arith}
 use Rattle.std.specs.List.{AllByRecursion}
 use Rattle.cw_types.specs.declared.logs.LogName.TheVariants.{Config}
 use Rattle.cw_config.specs.declared.records.ConfigRecord.{ConfigRecord}
@@ -23,17 +23,12 @@ use Rattle.cw_rows.specs.Kept.{Kept}
 use Rattle.cw_rows.specs.Tests.{leader_test}
 use Rattle.cw_rows.specs.Writes.{bytes_in}
 use Rattle.cw_rows.proofs.ConfigDue.{configs-put, append_config-row, append_fence-row, fence_of}
-
--- facts of each member of a list, and so of its last ones behind its first ones
-each-last : (before first last : List ConfigRecord) → AreAllowedConfigs before (first ++ last) → AreAllowedConfigs (before ++ first) last
-each-last before [] last each = subst (λ (l : List ConfigRecord). AreAllowedConfigs l last) (sym (append-nil before)) each
-each-last before (x ∷ first) last each = subst (λ (l : List ConfigRecord). AreAllowedConfigs l last) (append_assoc before (x ∷ []) first)
-    (each-last (before ++ x ∷ []) first last each.1)
+use Rattle.cw_laws.proofs.Configs.{allowed-rest}
 
 module _ {A : Type 0} (event : Cluster → Answer A) (setting : Setting) (s : Cluster) (frame : List ConfigRecord) (law : Keeps setting s (event s))
     (facts : AreFacts setting s) (grown : (event s).1.configs ≡ s.configs ++ frame) where
   pub accepted-behind : AreAccepted s.configs frame
-  accepted-behind = accepted-allowed s.configs frame (each-last [] s.configs frame
+  accepted-behind = accepted-allowed s.configs frame (allowed-rest [] s.configs frame
       (subst (λ (l : List ConfigRecord). AreAllowedConfigs [] l) grown (law facts).logs.configs.allowed))
 
 -- the room that there was for a frame's bytes

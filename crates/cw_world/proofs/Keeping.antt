@@ -1,14 +1,9 @@
 -- A log keeps on: its kind, whether it tells its list, and that no count of faults falls.
-use Rattle.std.proofs.Common.{◌≡◌, ◌≢◌, ◌⊎◌, ⊎_elim, ◌≤◌, ℕ, ◌++◌, ◌∷◌, [], List, Option, Some, None, is_some, option_map, refl, sym, ap, ◌∙◌, subst, arith}
+use Rattle.std.proofs.Common.{◌≡◌, ◌≢◌, ℕ, ◌∷◌, [], refl, sym, subst, arith}
 use Rattle.cw_types.specs.declared.logs.LogName.{LogName}
 use Rattle.cw_types.specs.declared.logs.LogName.TheVariants.{Config, Offsets, Status, Txn, Batches}
 use Rattle.cw_disk.specs.declared.device.Disk.{Ghosts}
 use Rattle.cw_world.specs.Logs.{LogsState, LogView, HaveSameOthers, KeepsOn, view_in, faults_in}
-
--- a list that is changed is told as it was
-pub told-mapped : {A B : Type 0} (f : A → B) (old : Option A) → is_some (option_map f old) ≡ is_some old
-told-mapped f None = refl
-told-mapped f (Some x) = refl
 
 pub keeps-same : (view : LogView) (faults : ℕ → ℕ) → KeepsOn view view faults faults
 keeps-same view faults = record { kind = refl; told = refl; later = λ side. omega (arith) }

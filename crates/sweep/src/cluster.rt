@@ -146,21 +146,10 @@ where
 }
 
 fn ended_by<D, U: Drop, N: Drop>(outcome: Outcome<D, U, N>) -> Ended<D> {
-    let Outcome {
-        status,
-        disks,
-        outlet,
-        net,
-        journal,
-        receipts,
-    } = outcome;
-    let end = end_of(&status);
-    drop(status);
-    drop(outlet);
-    drop(net);
-    drop(journal);
-    drop(receipts);
-    Ended { end, disks }
+    Ended {
+        end: end_of(&outcome.status),
+        disks: outcome.disks,
+    }
 }
 
 fn end_of(status: &Status) -> End {

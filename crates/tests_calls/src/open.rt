@@ -6,6 +6,10 @@ use cw_types::{Epoch, Listed, LogName, PartKey, Span, Tag, Tid};
 use std::alloc::{AllocError, Global};
 use std::test::Fail;
 
+// The target state of `a`, paused.
+const PAUSED: (&[u8], &[u8]) = (b"target-state-a", b"{\"state\":\"PAUSED\"}");
+
+// A log of one frame with one member.
 fn frame<A: Drop>(alloc: Global, member: A) -> Result<Vec<Listed<A>>, AllocError> {
     let mut members = Vec::new(alloc);
     members.push(member)?;
@@ -14,66 +18,53 @@ fn frame<A: Drop>(alloc: Global, member: A) -> Result<Vec<Listed<A>>, AllocError
     Ok(frames)
 }
 
-fn bytes(alloc: Global, text: &[u8]) -> Result<Listed<u8>, AllocError> {
-    let mut bytes = Vec::new(alloc);
-    bytes.extend_from_slice(text)?;
-    Ok(Listed::new(bytes))
-}
-
-// What is met first where the config log has one record, and the transaction log one commit of a script.
-fn met(
-    alloc: Global,
-    (key, value, stamp): (&[u8], &[u8], u64),
-    (number, from): (u64, u64),
-) -> Result<Option<FirstHarm>, AllocError> {
-    let record = Applied {
+fn record(alloc: Global, key: &[u8], value: &[u8], stamp: u64) -> Result<Applied, AllocError> {
+    Ok(Applied {
         offset: 0,
         stamp,
-        key: bytes(alloc, key)?,
-        value: Some(bytes(alloc, value)?),
-    };
-    let tag = Tag {
-        tid: Tid::Raw(1),
-        epoch: Epoch(0),
-        number,
-    };
-    let span = Span {
-        part: PartKey::Raw(3),
-        from,
-        to: 7,
-    };
-    let spans = vec![in alloc; span]?;
-    let commit = Entry::Commit {
-        tag,
+        key: Listed::new(key.to_vec(alloc)?),
+        value: Some(Listed::new(value.to_vec(alloc)?)),
+    })
+}
+
+// A commit of a script, of the records of part 3 from one on.
+fn commit(alloc: Global, number: u64, from: u64) -> Result<Entry, AllocError> {
+    let (tid, epoch, part) = (Tid::Raw(1), Epoch(0), PartKey::Raw(3));
+    Ok(Entry::Commit {
+        tag: Tag { tid, epoch, number },
         generation: 0,
-        spans: Listed::new(spans),
-    };
-    let config = frame(alloc, record)?;
-    let txn = frame(alloc, commit)?;
-    let frames = FramesRead::new(
-        config,
-        Vec::new(alloc),
-        Vec::new(alloc),
-        txn,
-        Vec::new(alloc),
-    );
-    judge(alloc, &frames)
+        spans: Listed::new(vec![in alloc; Span { part, from, to: 7 }]?),
+    })
+}
+
+// What is met first where the config log has one record, and the transaction log one commit.
+fn met(
+    alloc: Global,
+    ((key, value), stamp): ((&[u8], &[u8]), u64),
+    (number, from): (u64, u64),
+) -> Result<Option<FirstHarm>, AllocError> {
+    let config = frame(alloc, record(alloc, key, value, stamp)?)?;
+    let txn = frame(alloc, commit(alloc, number, from)?)?;
+    let (offsets, status, batches) = (Vec::new(alloc), Vec::new(alloc), Vec::new(alloc));
+    judge(
+        alloc,
+        &FramesRead::new(config, offsets, status, txn, batches),
+    )
 }
 
 #[test]
 fn first_frame_that_lacks_something_is_met(rt: HostRuntime) -> Result<(), Fail> {
-    let alloc = rt.alloc();
-    let key: &[u8] = b"target-state-a";
-    let paused: &[u8] = b"{\"state\":\"PAUSED\"}";
-    let (log, at) = (LogName::Txn, 0);
-    let txn = FramePlace { log, at };
-    let log = LogName::Config;
-    let config = FramePlace { log, at };
-    assert!(rt; met(alloc, (key, paused, 1), (0, 0))?.is_none());
-    assert!(rt; met(alloc, (key, paused, 1), (4, 0))? == Some(FirstHarm::NotAllowed(txn)));
-    assert!(rt; met(alloc, (key, paused, 1), (0, 2))? == Some(FirstHarm::Unsafe(txn)));
-    assert!(rt; met(alloc, (key, paused, 2), (0, 2))? == Some(FirstHarm::Unsafe(config)));
-    let harm = Some(FirstHarm::NotAllowed(config));
-    assert!(rt; met(alloc, (b"commit-a", b"{\"tasks\":1}", 0), (4, 0))? == harm);
+    let place = |log: LogName| FramePlace { log, at: 0 };
+    let (config, txn) = (place(LogName::Config), place(LogName::Txn));
+    let tasks: (&[u8], &[u8]) = (b"commit-a", b"{\"tasks\":1}");
+    for (record, commit, harm) in [
+        ((PAUSED, 1), (0, 0), None),
+        ((PAUSED, 1), (4, 0), Some(FirstHarm::NotAllowed(txn))),
+        ((PAUSED, 1), (0, 2), Some(FirstHarm::Unsafe(txn))),
+        ((PAUSED, 2), (0, 2), Some(FirstHarm::Unsafe(config))),
+        ((tasks, 0), (4, 0), Some(FirstHarm::NotAllowed(config))),
+    ] {
+        assert_eq!(rt; met(rt.alloc(), record, commit)?, harm);
+    }
     Ok(())
 }

@@ -5,7 +5,6 @@ use cw_route::{Reply, route};
 use cw_status::StatusState;
 use cw_txn::{Coordinator, SetOffset};
 use cw_types::{Epoch, Name, PartKey, Tid};
-use std::alloc::Global;
 use std::test::Fail;
 
 // A stopped source of the name `a`.
@@ -25,17 +24,16 @@ fn offsets(rt: &HostRuntime) -> Result<Coordinator, Fail> {
         let part = PartKey::Seq { connector, index };
         txn.set(&Tid::Lead, Epoch(0), &[SetOffset { part, to: Some(3) }])?;
     }
-    let connector = Name::read(rt.alloc(), b"a")?;
-    let topic = Name::read(rt.alloc(), b"t")?;
+    let (connector, topic) = (Name::read(rt.alloc(), b"a")?, Name::read(rt.alloc(), b"t")?);
     let part = PartKey::Sink { connector, topic };
     txn.set(&Tid::Lead, Epoch(0), &[SetOffset { part, to: Some(1) }])?;
     Ok(txn)
 }
 
 // What a request is answered by who sees this.
-fn answer(alloc: Global, seen: &View<'_>, method: &[u8], target: &[u8]) -> Result<Reply, Fail> {
-    let call = route(alloc, method, target, b"")?;
-    Ok(reply(alloc, &call, seen)?)
+fn answer(rt: &HostRuntime, seen: &View<'_>, method: &[u8], target: &[u8]) -> Result<Reply, Fail> {
+    let call = route(rt.alloc(), method, target, b"")?;
+    Ok(reply(rt.alloc(), &call, seen)?)
 }
 
 // What a request is answered.
@@ -49,7 +47,7 @@ fn ask(rt: &HostRuntime, ready: bool, method: &[u8], target: &[u8]) -> Result<Re
         txn: &txn,
         feeds: &feeds,
     };
-    answer(rt.alloc(), &seen, method, target)
+    answer(rt, &seen, method, target)
 }
 
 #[test]
@@ -75,11 +73,8 @@ fn offsets_have_the_order_of_their_texts(rt: HostRuntime) -> Result<(), Fail> {
 fn what_is_written_waits_for_a_leader(rt: HostRuntime) -> Result<(), Fail> {
     assert_eq!(rt; ask(&rt, false, b"DELETE", b"/connectors/a")?.code, 409);
     let removed = ask(&rt, true, b"DELETE", b"/connectors/a")?;
-    assert_eq!(rt; removed.code, 204);
-    assert!(rt; removed.body.as_slice().is_empty());
-    assert_eq!(rt;
-        ask(&rt, true, b"DELETE", b"/connectors/a/offsets")?.code,
-        200
-    );
+    assert!(rt; removed.code == 204 && removed.body.as_slice().is_empty());
+    let reset = ask(&rt, true, b"DELETE", b"/connectors/a/offsets")?;
+    assert_eq!(rt; reset.code, 200);
     Ok(())
 }

@@ -14,9 +14,7 @@ fn line(alloc: Global, bytes: &[u8]) -> Result<Listed<u8>, AllocError> {
 #[test]
 fn a_file_that_fails_has_the_first_lines_and_a_part(rt: HostRuntime) -> Result<(), Fail> {
     let alloc = rt.alloc();
-    let mut lines = Vec::new(alloc);
-    lines.push(line(alloc, b"first")?)?;
-    lines.push(line(alloc, b"second")?)?;
+    let lines = Vec::from_array(alloc, [line(alloc, b"first")?, line(alloc, b"second")?])?;
     let delivery = Delivery {
         turn: 0,
         topic: Name::read(alloc, b"t")?,

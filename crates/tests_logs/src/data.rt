@@ -1,17 +1,10 @@
 //! Transactions that wait for their marks, and calls that were reserved.
+use crate::made::{Always, tag};
 use cw_data::{Batch, DataState};
-use cw_types::{Decided, Epoch, Listed, Name, PartKey, Tag, Tid, Verdict};
+use cw_types::{Listed, Name, PartKey, Verdict};
 use std::alloc::{AllocError, Global};
 use std::process::Abort;
 use std::test::Fail;
-
-fn tag(number: u64) -> Tag {
-    Tag {
-        tid: Tid::Raw(2),
-        epoch: Epoch(1),
-        number,
-    }
-}
 
 fn batch(alloc: Global, number: u64, topic: &Name) -> Result<Batch, AllocError> {
     let mut values = Vec::new(alloc);
@@ -31,17 +24,6 @@ fn add(rt: &impl Abort, log: &mut DataState, batch: Batch) -> Result<(), AllocEr
     assert!(rt; log.end(&batch.topic) < 1000);
     assert!(rt; batch.values.as_slice().len() < 1000);
     log.batch(batch)
-}
-
-// Every transaction has this verdict.
-struct Always(Verdict);
-
-impl Decided for Always {
-    ghost verdict_of = { λ v tag. v.0 };
-
-    fn verdict(&self, _tag: &Tag) -> Verdict {
-        self.0
-    }
 }
 
 // A batch whose transaction is aborted, both of which were reserved.

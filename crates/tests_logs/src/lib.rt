@@ -14,6 +14,8 @@ mod disk;
 #[cfg(test)]
 mod feed;
 #[cfg(test)]
+mod made;
+#[cfg(test)]
 mod net;
 #[cfg(test)]
 mod offset;

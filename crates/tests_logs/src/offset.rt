@@ -1,28 +1,10 @@
 //! Transactions that wait for their marks, calls that were reserved, and a log that was compacted.
+use crate::made::{Always, tag};
 use cw_offset::OffsetState;
-use cw_types::{Decided, Epoch, PartKey, Tag, Tid, Verdict};
+use cw_types::{PartKey, Verdict};
 use std::alloc::{AllocError, Global};
 use std::process::Abort;
 use std::test::Fail;
-
-// Every transaction has this verdict.
-struct Always(Verdict);
-
-impl Decided for Always {
-    ghost verdict_of = { λ v tag. v.0 };
-
-    fn verdict(&self, _tag: &Tag) -> Verdict {
-        self.0
-    }
-}
-
-fn tag(number: u64) -> Tag {
-    Tag {
-        tid: Tid::Raw(0),
-        epoch: Epoch(1),
-        number,
-    }
-}
 
 // Whether the first transaction to mark is this one.
 fn expect_first(rt: &impl Abort, state: &OffsetState, number: u64) {

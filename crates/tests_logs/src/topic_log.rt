@@ -1,4 +1,5 @@
 // The bytes of the format, which harm is met where, and a stop in a device call.
+use crate::made::disk_of;
 use cw_disk::{Disk, MemDisk, Way};
 use cw_log::{AppendFault, Harm, OpenCause, TopicLog};
 use cw_types::LogName;
@@ -7,10 +8,6 @@ use std::test::Fail;
 
 // A transaction log with the bodies `xy` and `z`.
 const TWO: &[u8] = b"\x01CWL\x01\x04\0\0\0\0\0\0\0\0\0\x01\x01\0\0\0\x02xy\x01\0\0\0\x01z\0";
-
-fn disk_of(alloc: Global, bytes: &[u8], fuse: u64) -> Result<MemDisk, Fail> {
-    Ok(MemDisk::new(alloc, bytes.to_vec(alloc)?, Vec::new(alloc), fuse)?)
-}
 
 fn log_of(alloc: Global, disk: MemDisk) -> Result<TopicLog<MemDisk>, OpenCause> {
     TopicLog::open_log(alloc, disk, LogName::Txn, 40).map_err(|fault| fault.cause)
@@ -33,9 +30,17 @@ fn a_log_has_the_bytes_of_the_format(rt: HostRuntime) -> Result<(), Fail> {
     Ok(())
 }
 
+// Why the log of the two bodies isn't opened, where the byte at a place is another.
+fn cause_at(alloc: Global, at: usize, byte: u8) -> Result<Option<OpenCause>, Fail> {
+    let mut bytes = TWO.to_vec(alloc)?;
+    if at < bytes.len() {
+        bytes[at] = byte;
+    }
+    Ok(log_of(alloc, disk_of(alloc, &bytes, u64::MAX)?).err())
+}
+
 #[test]
 fn each_harm_has_its_place(rt: HostRuntime) -> Result<(), Fail> {
-    let alloc = rt.alloc();
     for (at, byte, place, harm) in [
         (7, 1, 0, Harm::Header),
         (3, b'M', 0, Harm::Magic),
@@ -45,15 +50,8 @@ fn each_harm_has_its_place(rt: HostRuntime) -> Result<(), Fail> {
         (27, 9, 23, Harm::Length),
         (29, 9, 29, Harm::Length),
     ] {
-        let mut bytes = TWO.to_vec(alloc)?;
-        if at < bytes.len() {
-            bytes[at] = byte;
-        }
         let cause = OpenCause::Damaged { at: place, harm };
-        assert_eq!(rt;
-            log_of(alloc, disk_of(alloc, &bytes, u64::MAX)?).err(),
-            Some(cause)
-        );
+        assert_eq!(rt; cause_at(rt.alloc(), at, byte)?, Some(cause));
     }
     Ok(())
 }

@@ -8,8 +8,9 @@ use Rattle.cw_open.proofs.StayLemmas.{none-fell, stay-of}
 use Rattle.cw_audit.specs.Audited.{HasReportOf, IsRefused, Writes}
 use Rattle.cw_audit.specs.declared.end.AuditEnd.{AuditEnd}
 use Rattle.cw_audit.specs.declared.end.AuditEnd.TheVariants.{Done, Memory}
-use Rattle.cw_audit.proofs.Ends.{calm-open, calm-why, damaged-why, failed-why, files-stand, is-refused, one-report, open-refuses, open-undamaged, open-unfailed, stopped-on, undone, unwriting, unwritten, written-of}
+use Rattle.cw_audit.proofs.Ends.{calm-open, calm-why, damaged-why, failed-why, is-refused, one-report, open-refuses, open-undamaged, open-unfailed, stopped-on, undone, unwriting, unwritten, written-of}
 use Rattle.cw_audit.proofs.auditing.audit.Goals as goal
+use Rattle.cw_open.proofs.LeavingLemmas.{holds-lists}
 
 -- ---- disks that were opened
 
@@ -33,7 +34,7 @@ returns-in-Ok-clause-damaged_only g c = λ disk at harm is. open-undamaged c.pri
 pub returns-in-Ok-clause-damaged : goal.returns-in-Ok-clause-damaged
 returns-in-Ok-clause-damaged g c = λ files tell disk at harm has.
     open-refuses c.print.result.end c.print.ensures.ends
-    (c.files_open_one_way.ensures.harm files (stored_by c.in-Ok.judged) (opened_by c.in-Ok.judged) disk at harm (files-stand files (stored_by c.in-Ok.judged) (c.in-Ok.ensures.files files tell))
+    (c.files_open_one_way.ensures.harm files (stored_by c.in-Ok.judged) (opened_by c.in-Ok.judged) disk at harm (holds-lists files (stored_by c.in-Ok.judged) (c.in-Ok.ensures.files files tell))
     (judged-stand c.in-Ok.judged c.in-Ok.ensures.sound) has)
 
 pub returns-in-Ok-clause-store_fault : goal.returns-in-Ok-clause-store_fault

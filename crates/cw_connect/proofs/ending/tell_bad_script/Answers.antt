@@ -2,8 +2,8 @@ use Rattle.std.proofs.Common.{◌≡◌, ◌∙◌, ◌++◌, ◌∷◌, [], Lis
 use Rattle.std.specs.Prelude.{codes, decimal}
 use Rattle.cw_script.specs.Faults.{kind_text}
 use Rattle.cw_io.specs.Told.{with_back}
-use Rattle.cw_connect.proofs.Written.{writes_then}
 use Rattle.cw_connect.proofs.ending.tell_bad_script.Goals as goal
+use Rattle.cw_lines.proofs.SoFar.{writes_then}
 
 pub returns-clause-whole : goal.returns-clause-whole
 returns-clause-whole g c =

@@ -6,9 +6,10 @@ use Rattle.cw_assign.specs.Items.{same_item}
 use Rattle.cw_model.specs.declared.instance.Instance.{Instance}
 use Rattle.cw_model.specs.declared.instance.InstancePhase.TheVariants.{Ended}
 use Rattle.cw_model.specs.Updates.{in_phase}
-use Rattle.cw_rows.specs.Crew.{CrewState, IsCrew, numbers_at, runs_at, change_at}
+use Rattle.cw_rows.specs.Crew.{CrewState, IsCrew, numbers_at, change_at}
 use Rattle.cw_rows.proofs.CrewLemmas.{numbers-within, ends-of, numbers-read, crew-ends}
 use Rattle.cw_rows.proofs.crew.Crew.end_item_at.Goals as goal
+use Rattle.cw_model.specs.EventsReports.{is_item_at}
 
 pub end_among-requires : goal.end_among-requires
 end_among-requires c =
@@ -19,7 +20,7 @@ pub invariant_of-self : goal.invariant_of-self
 invariant_of-self c =
     let read = numbers-read _ _ _ _ c.self.invariant _ c.self.view_is c.args.w c.requires c.index.result.now c.index.ensures in
     let here : c.args.w < length c.self.inside.rows.items = subst (λ (s : CrewState). c.args.w < length s.rows) (sym c.self.view_is) c.requires in
-    let ended = map (λ i. if runs_at c.args.w c.args.item.now i then in_phase Ended i else i) c.self.inside.instances.items in
+    let ended = map (λ i. if is_item_at c.args.w c.args.item.now i then in_phase Ended i else i) c.self.inside.instances.items in
     let all : c.end_among.new.instances.items ≡ ended = c.end_among.ensures ∙
     ap (λ (ns : List ℕ). fold (change_at (λ i. same_item i.item c.args.item.now) (in_phase Ended) no_instance) c.self.inside.instances.items ns) (c.as_slice.ensures ∙ read) ∙
     ends-of c.args.w c.args.item.now c.self.inside.instances.items in
