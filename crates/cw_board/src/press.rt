@@ -32,9 +32,10 @@ impl<J: BoardNaming> Outcome<Shelves, ()> for OfBoard<J> {
     ghost then = { λ v x y w. IsOfBoard J.book J.workers y };
 }
 
-/// A reader that isn't looking, and one that looks.
+/// A reader that isn't looking.
 pub type ShelvesReader<J> = Reader<Shelves, (), OfBoard<J>>;
 
+/// A reader that looks.
 pub type ShelvesReading<J> = Reading<Shelves, (), OfBoard<J>>;
 
 type ShelvesWriter<J> = Writer<Shelves, Post, (), OfBoard<J>>;

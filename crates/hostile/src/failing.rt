@@ -1,5 +1,5 @@
 //! What is left of a run in which one call of one object fails, beside what the same run leaves without a failure.
-use crate::objects::{Failure, Object, SERVE, calls_of, object_named};
+use crate::objects::{Failure, Object, PIECE, SERVE, calls_of, object_named};
 use crate::runs::{Left, link_of, run, written};
 use crate::texts::{number_of, part_text};
 use std::alloc::{AllocError, Global};
@@ -14,9 +14,6 @@ rest 0 POST /connectors {\"name\":\"a\",\"config\":{\"connector.class\":\"FileSt
 rest 0 POST /connectors {\"name\":\"b\",\"config\":{\"connector.class\":\"FileStreamSink\",\"file\":\"o\",\
 \"topics\":\"t\"}}\n\
 settle 1000\ntake t 11\ntake t 12\n";
-
-// How many bytes of the script are read at once.
-const PIECE: usize = 10;
 
 // What each connection asks for.
 const CALLS: &[u8] = b"GET /connectors HTTP/1.1\r\n\r\nGET /connector-plugins HTTP/1.1\r\n\r\n";

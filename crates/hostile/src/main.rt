@@ -7,6 +7,8 @@
 //! - `send` and a text: two connections send it to a server over empty disks, one in large pieces and one in pieces of
 //!   one byte. Told are the status, how many calls the journal has, and what both got.
 //! - `play` and a text: it is the script of a cluster over empty disks. Told are the status and the answers.
+//! - `over`, the number of a call of the output, and two texts of one part: the first is played over empty disks so that
+//!   this call fails, and the second over what that left on them. Told is of both what is told of `play`.
 //!
 //! A text is a first part, and where more fields follow, a number, a middle part that stands so often, and a last part;
 //! `\r`, `\n`, `\t` and `\0` stand for these bytes.
@@ -22,9 +24,10 @@ mod sending;
 mod texts;
 
 use crate::failing::fail;
-use crate::runs::run;
+use crate::objects::{Failure, Object, empty_disks};
+use crate::runs::{Ended, Left, play_over, run};
 use crate::sending::send;
-use crate::texts::{escaped, field, text_of};
+use crate::texts::{escaped, field, number_of, text_of};
 use std::alloc::{AllocError, Global};
 use std::io::{self, BufRead, BufReader};
 use std::rt::Clock;
@@ -37,10 +40,34 @@ fn play_text<R: AllocGlobal + Threads + Wait + Clock + Sync>(
     fields: &[&str],
 ) -> Result<String, AllocError> {
     let script = text_of(rt.alloc(), fields)?;
-    let left = run(rt, "drive", script, 65_536, &[], None)?;
+    tell_played(rt.alloc(), &run(rt, "drive", script, 65_536, &[], None)?)
+}
+
+// Plays a script so that a call of the output fails, and another over what it left, and says what comes of both.
+fn play_on<R: AllocGlobal + Threads + Wait + Clock + Sync>(
+    rt: &R,
+    call: &str,
+    first: &str,
+    second: &str,
+) -> Result<String, AllocError> {
+    let alloc = rt.alloc();
+    let failure = Failure {
+        object: Object::Output,
+        call: number_of(call),
+    };
+    let script = text_of(alloc, &[first])?;
+    let Ended { left, disks } = play_over(rt, empty_disks(alloc), script, Some(failure))?;
+    let failed = tell_played(alloc, &left?)?;
+    let script = text_of(alloc, &[second])?;
+    let went_on = tell_played(alloc, &play_over(rt, disks, script, None)?.left?)?;
+    format!(in alloc; "{failed}, then {went_on}")
+}
+
+// Says what came of a script.
+fn tell_played(alloc: Global, left: &Left) -> Result<String, AllocError> {
     let status = left.status.as_str();
-    let answers = escaped(rt.alloc(), &left.answers)?;
-    format!(in rt.alloc(); "{status}: {answers}")
+    let answers = escaped(alloc, &left.answers)?;
+    format!(in alloc; "{status}: {answers}")
 }
 
 // What comes of a line.
@@ -53,6 +80,7 @@ fn answer_of<R: AllocGlobal + Threads + Wait + Clock + Sync>(
         "fail" => fail(rt, field(&fields, 1), field(&fields, 2), field(&fields, 3)),
         "send" => send(rt, fields.get(1..).unwrap_or(&[])),
         "play" => play_text(rt, fields.get(1..).unwrap_or(&[])),
+        "over" => play_on(rt, field(&fields, 1), field(&fields, 2), field(&fields, 3)),
         _ => String::from_str(rt.alloc(), "no such run"),
     }
 }

@@ -7,6 +7,9 @@ use std::alloc::{AllocError, Global};
 /// A server of one worker and one handler, for more links than there are.
 pub(crate) const SERVE: &str = "serve --workers 1 --handlers 1 --conns 3";
 
+/// How many bytes of a script are read at once, where a call fails: less than two lines, which are answered one by one.
+pub(crate) const PIECE: usize = 10;
+
 // The lines of a feed.
 const ORDERS: &[u8] =
     b"line-01\nline-02\nline-03\nline-04\nline-05\nline-06\nline-07\nline-08\nline-09\nline-10\n\

@@ -2,10 +2,10 @@
 ghost use Rattle.std.specs.Prelude.{◌<◌};
 
 use crate::kept_link::KeptLink;
-use crate::objects::{Failure, Object, calls_of, empty_disks, shelf_of, words_of};
+use crate::objects::{Failure, Object, PIECE, calls_of, empty_disks, shelf_of, words_of};
 use crate::texts::status_text;
 use cw_connect::{Outcome, connect};
-use cw_disk::MemDisk;
+use cw_disk::{Disks, MemDisk};
 use cw_io::{MemLink, MemOutlet, MemShelf, MemSink, MemSource};
 use cw_net::{MemClock, MemListener, OpenGate};
 use cw_types::Name;
@@ -26,6 +26,13 @@ pub(crate) struct Left {
     pub(crate) answers: Vec<u8>,
     /// The file of the script's sink.
     pub(crate) file: Vec<u8>,
+}
+
+/// What a run leaves, and the disks that it stood on.
+#[derive(Drop)]
+pub(crate) struct Ended {
+    pub(crate) left: Result<Left, AllocError>,
+    pub(crate) disks: Disks<MemDisk>,
 }
 
 // What the top call is handed beside disks, clock and gate.
@@ -52,15 +59,28 @@ pub(crate) fn run<R: AllocGlobal + Threads + Wait + Clock + Sync>(
 {
     let words = words_of(rt.alloc(), command)?;
     let objects = objects_of(rt, script, piece, links, failure)?;
-    run_over(rt, &words, objects)
+    run_over(rt, &words, empty_disks(rt.alloc()), objects).left
 }
 
-// The same over these objects.
+/// Plays a script in pieces over what stands on these disks.
+pub(crate) fn play_over<R: AllocGlobal + Threads + Wait + Clock + Sync>(
+    rt: &R,
+    disks: Disks<MemDisk>,
+    script: Vec<u8>,
+    failure: Option<Failure>,
+) -> Result<Ended, AllocError> {
+    let words = words_of(rt.alloc(), "drive")?;
+    let objects = objects_of(rt, script, PIECE, &[], failure)?;
+    Ok(run_over(rt, &words, disks, objects))
+}
+
+// Runs a command over these disks and objects.
 fn run_over<R: AllocGlobal + Threads + Wait + Clock + Sync>(
     rt: &R,
     words: &[String],
+    disks: Disks<MemDisk>,
     objects: Objects<'_, R>,
-) -> Result<Left, AllocError> {
+) -> Ended {
     let Objects {
         mut input,
         mut output,
@@ -71,7 +91,7 @@ fn run_over<R: AllocGlobal + Threads + Wait + Clock + Sync>(
     let outcome = connect(
         rt,
         words,
-        empty_disks(rt.alloc()),
+        disks,
         &mut input,
         &mut output,
         &mut shelf,
@@ -80,9 +100,10 @@ fn run_over<R: AllocGlobal + Threads + Wait + Clock + Sync>(
         MemClock::new(0, 0),
         &OpenGate,
     );
-    let left = left_of(rt.alloc(), &outcome, &output);
-    drop(outcome);
-    left
+    Ended {
+        left: left_of(rt.alloc(), &outcome, &output),
+        disks: outcome.disks,
+    }
 }
 
 // The objects of a run.

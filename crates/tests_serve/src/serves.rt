@@ -3,8 +3,9 @@ use crate::gates::{Meeting, Passing, Waiting, Watched};
 use cw_connect::{Outcome, Status, connect};
 use cw_disk::{Disks, MemDisk};
 use cw_io::{MemOutlet, MemShelf, MemSink, MemSource};
-use cw_net::{Gate, Listener, MemClock};
+use cw_net::{Gate, MemClock};
 use std::alloc::{AllocError, Global};
+use std::rt::Clock;
 use std::sync::Wait;
 use std::sync::atomic::{AtomicU64, Ordering};
 use std::test::Fail;
@@ -31,7 +32,12 @@ fn words_of(alloc: Global, line: &str) -> Result<Vec<String>, AllocError> {
     Ok(words)
 }
 
-// What a run left.
+// What a test's runtime gives.
+trait Host: AllocGlobal + Threads + Wait + Clock + Sync {}
+
+impl<R: AllocGlobal + Threads + Wait + Clock + Sync> Host for R {}
+
+// What a run leaves, and what another goes on from.
 #[derive(Drop)]
 struct Left<N> {
     is_done: bool,
@@ -40,23 +46,10 @@ struct Left<N> {
 }
 
 fn left_by<N: Drop>(outcome: Outcome<MemDisk, MemOutlet, N>) -> Left<N> {
-    let Outcome {
-        status,
-        disks,
-        outlet,
-        net,
-        journal,
-        receipts,
-    } = outcome;
-    let is_done = is_done(&status);
-    drop(status);
-    drop(outlet);
-    drop(journal);
-    drop(receipts);
     Left {
-        is_done,
-        disks,
-        net,
+        is_done: is_done(&outcome.status),
+        disks: outcome.disks,
+        net: outcome.net,
     }
 }
 
@@ -64,40 +57,40 @@ fn is_done(status: &Status) -> bool {
     matches!(status, Status::Done)
 }
 
-// Runs a command over disks, with a script on its input and a clock that stands at 0.
-fn run<R, N, G>(
-    rt: &R,
+// What there is before the first run: a listener that waits for a gate, and nothing on the disks.
+fn nothing<'r, R: Host, G: Watched>(rt: &'r R, gate: &'r G) -> Left<Waiting<'r, R, G>> {
+    let disks = empty_disks(rt.alloc());
+    let net = Waiting {
+        rt,
+        gate,
+        ended: false,
+    };
+    Left {
+        is_done: true,
+        disks,
+        net,
+    }
+}
+
+// Runs a command from there on, with a script on its input and a clock that stands at 0.
+fn run<'r, R: Host, G: Gate + Watched + Sync>(
     words: &str,
     script: Vec<u8>,
-    disks: Disks<MemDisk>,
-    net: N,
-    gate: &G,
-) -> Result<Left<N>, AllocError>
-where
-    R: AllocGlobal + Threads + Wait + std::rt::Clock + Sync,
-    N: Listener + Drop,
-    G: Gate + Sync,
-{
-    let alloc = rt.alloc();
-    let words = words_of(alloc, words)?;
-    let mut input = MemSource::new(script, 65_536, Vec::new(alloc));
-    let mut output = MemSink::new(alloc, 65_536, Vec::new(alloc));
-    let mut shelf = MemShelf::new(alloc, Vec::new(alloc));
-    let outlet = MemOutlet::new(alloc, Vec::new(alloc));
-    let clock = MemClock::new(0, 0);
-    let outcome = connect(
+    from: Left<Waiting<'r, R, G>>,
+) -> Result<Left<Waiting<'r, R, G>>, AllocError> {
+    let (rt, gate) = (from.net.rt, from.net.gate);
+    Ok(left_by(connect(
         rt,
-        &words,
-        disks,
-        &mut input,
-        &mut output,
-        &mut shelf,
-        outlet,
-        net,
-        clock,
+        &words_of(rt.alloc(), words)?,
+        from.disks,
+        &mut MemSource::new(script, 65_536, Vec::new(rt.alloc())),
+        &mut MemSink::new(rt.alloc(), 65_536, Vec::new(rt.alloc())),
+        &mut MemShelf::new(rt.alloc(), Vec::new(rt.alloc())),
+        MemOutlet::new(rt.alloc(), Vec::new(rt.alloc())),
+        from.net,
+        MemClock::new(0, 0),
         gate,
-    );
-    Ok(left_by(outcome))
+    )))
 }
 
 // What is looked at of what a run left.
@@ -128,39 +121,18 @@ struct Ends {
 }
 
 // Plays a script over empty disks, and runs a server from there on, which ends when a gate is over.
-fn ends_of<'r, R, G>(
+fn ends_of<'r, R: Host, G: Gate + Watched + Sync>(
     rt: &'r R,
+    gate: &'r G,
     script: Vec<u8>,
     words: &str,
-    gate: &'r G,
-) -> Result<Ends, AllocError>
-where
-    R: AllocGlobal + Threads + Wait + std::rt::Clock + Sync,
-    G: Gate + Watched + Sync,
-{
-    let net = Waiting {
-        rt,
-        gate,
-        ended: false,
-    };
-    let left = run(rt, "drive", script, empty_disks(rt.alloc()), net, gate)?;
+) -> Result<Ends, AllocError> {
+    let left = run("drive", script, nothing(rt, gate))?;
     let played = look(&left);
-    let served = seen_of_server(rt, words, left, gate)?;
+    let left = run(words, Vec::new(rt.alloc()), left)?;
+    let served = look(&left);
+    drop(left);
     Ok(Ends { played, served })
-}
-
-// Runs a server from where a run left.
-fn seen_of_server<R, N, G>(rt: &R, words: &str, left: Left<N>, gate: &G) -> Result<Seen, AllocError>
-where
-    R: AllocGlobal + Threads + Wait + std::rt::Clock + Sync,
-    N: Listener + Drop,
-    G: Gate + Sync,
-{
-    let Left { disks, net, .. } = left;
-    let served = run(rt, words, Vec::new(rt.alloc()), disks, net, gate)?;
-    let seen = look(&served);
-    drop(served);
-    Ok(seen)
 }
 
 // Two task runners work beside each other: a runner that is held before its first scan sees a step of the other.
@@ -175,7 +147,7 @@ fn two_runners_work_beside_each_other(rt: HostRuntime) -> Result<(), Fail> {
     };
     let script = script.to_vec(rt.alloc())?;
     let words = "serve --workers 1 --runners 2 --handlers 1";
-    let ends = ends_of(&rt, script, words, &gate)?;
+    let ends = ends_of(&rt, &gate, script, words)?;
     assert!(rt; ends.played.is_done);
     assert!(rt; ends.served.is_done);
     assert_eq!(rt; gate.state.load(Ordering::SeqCst), 2);
@@ -213,7 +185,7 @@ fn herders_tick_and_the_cleaner_compacts(rt: HostRuntime) -> Result<(), Fail> {
     };
     let script = long_configs(rt.alloc())?;
     let words = "serve --workers 2 --runners 1 --handlers 1";
-    let ends = ends_of(&rt, script, words, &gate)?;
+    let ends = ends_of(&rt, &gate, script, words)?;
     assert!(rt; ends.played.first_side > 1_080_000);
     assert!(rt; ends.served.is_done);
     assert!(rt; gate.is_over());
