@@ -1,12 +1,12 @@
 -- How one more call follows those that a handler answered before.
-use Rattle.std.proofs.Common.{◌≡◌, ℕ, ◌<◌, ◌≤◌, true, false, List, [], ◌∷◌, ◌++◌, Result, Ok, Err, IfOk, sym, ap, ◌∙◌, subst, arith}
+use Rattle.std.proofs.Common.{◌≡◌, ◌⊎◌, inl, inr, ℕ, ◌<◌, ◌≤◌, true, false, List, [], ◌∷◌, ◌++◌, Result, Ok, Err, IfOk, IfErr, sym, ap, ◌∙◌, subst, arith}
 use Rattle.std.specs.Prelude.{All}
 use Rattle.std.specs.List.{AllPairs}
 use Rattle.std.specs.declared.alloc.AllocError.{AllocError}
 use Rattle.std.proofs.lemmas.List.Elements.{All-push, All-weaker}
 use Rattle.std.proofs.lemmas.List.Quantifiers.{all_pairs_push}
 use Rattle.cw_bytes.specs.Frames.{EachFrom}
-use Rattle.cw_desk.specs.Turns.{IsTurn}
+use Rattle.cw_desk.specs.Turns.{IsTurn, Keeps}
 use Rattle.cw_disk.specs.declared.device.Disk.{Ghosts}
 use Rattle.cw_laws.proofs.Allowed.{each_from-rest}
 use Rattle.cw_model.specs.declared.journal.JournalEntry.{JournalEntry}
@@ -84,3 +84,12 @@ pub if-locked : {D : Type 0} (G : Ghosts D) (w : ℕ) (call : Call) (old new : W
     → IfOk result (λ receipt. receipt.entry.board ≡ false)
 if-locked G w call old new (Ok receipt) turn = ap (λ (r : ReceiptState). r.entry.board) turn.keeps.0
 if-locked G w call old new (Err wanting) turn = tt
+
+-- a turn was taken, or memory was wanting before it and nothing is kept
+pub turned : {T D : Type 0} (Kept Last : ReceiptState → Type 0) (G : Ghosts D) (w : ℕ) (call : Call) (entry : JournalEntry) (old new : WorldState D) (result : Result T AllocError)
+    → IfOk result (λ _. (r : ReceiptState) × Kept r × IsTurn G w call old new (Ok r) × Last r)
+    → IfErr result (λ wanting. (new ≡ old) ⊎ IsTurn G w call old new (Err wanting))
+    → (answer : Result ReceiptState AllocError) × (IsTurn G w call old new answer ⊎ Keeps entry old new answer)
+turned Kept Last G w call entry old new (Ok done) ok err = (Ok ok.0, inl ok.2)
+turned Kept Last G w call entry old new (Err wanting) ok (inl same) = (Err wanting, inr same)
+turned Kept Last G w call entry old new (Err wanting) ok (inr turn) = (Err wanting, inl turn)

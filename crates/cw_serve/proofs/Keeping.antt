@@ -1,6 +1,6 @@
 -- What a turn keeps of what is known of the world under the lock.
-use Rattle.std.proofs.Common.{◌≡◌, ◌≤◌, ◌+◌, ℕ, List, [], ◌∷◌, ◌++◌, length, Bool, None, ap, ◌∙◌, subst, sym}
-use Rattle.std.specs.Prelude.{All}
+use Rattle.std.proofs.Common.{◌≡◌, ◌≤◌, ◌+◌, ◌&&◌, ℕ, List, [], ◌∷◌, ◌++◌, length, Bool, true, false, not, Option, None, Some, refl, ap, ◌∙◌, subst, sym}
+use Rattle.std.specs.Prelude.{All, is_some}
 use Rattle.std.proofs.lemmas.List.{length-append}
 use Rattle.std.proofs.lemmas.List.Elements.{All-push}
 use Rattle.logbook.specs.Pages.{Book}
@@ -19,8 +19,18 @@ use Rattle.cw_turns.specs.Going.{Start, GoesOn, start_of}
 use Rattle.cw_turns.proofs.Begun.{begins}
 use Rattle.cw_board.specs.Sides.{Writing}
 use Rattle.cw_serve.specs.Boarding.{IsBoarded}
-use Rattle.cw_serve.specs.Sharing.{IsShared, HasRoom}
+use Rattle.cw_serve.specs.Sharing.{SharedState, goes_on, IsShared, HasRoom}
 use Rattle.cw_serve.proofs.Boarding.{stays-boarded}
+
+-- nothing goes on once a disk failed
+none-failed : {A B : Type 0} (ended : Bool) (stop : Option A) (closed : Option B) → (not ended && not (is_some stop) && not (is_some closed)) ≡ true → closed ≡ None
+none-failed false None None on = refl
+none-failed false None (Some fault) on = absurd (let no : false ≡ true = on in cc)
+none-failed false (Some why) closed on = absurd (let no : false ≡ true = on in cc)
+none-failed true stop closed on = absurd (let no : false ≡ true = on in cc)
+
+pub alive-on : {D : Type 0} (s : SharedState D) → goes_on s ≡ true → s.world.state.closed ≡ None
+alive-on s on = none-failed s.ended s.stop s.world.state.closed on
 
 -- what a turn that goes on from everywhere leaves has grown
 pub grows-on : {D : Type 0} {G : Ghosts D} {start : Start} {old new : WorldState D} → GoesOn G start old → old.state.closed ≡ None → AreFacts old.setting old.state

@@ -7,3 +7,4 @@ pub mod Unbegun
 pub mod Boarding
 pub mod Following
 pub mod Standing
+pub mod Turned

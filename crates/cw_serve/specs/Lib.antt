@@ -7,3 +7,5 @@ pub mod Serving
 pub mod Working
 pub mod Boarding
 pub mod Following
+pub mod Gathering
+pub mod Turning

@@ -1,5 +1,5 @@
 -- How a server ends. This project's own.
-use Rattle.std.specs.Prelude.{◌≡◌, ◌≢◌, ◌⊎◌, ◌+◌, ◌≤◌, ℕ, All, length, true, None, Some}
+use Rattle.std.specs.Prelude.{◌≡◌, ◌≢◌, ◌⊎◌, ◌+◌, ◌≤◌, ℕ, Bool, All, length, true, false, Option, None, Some}
 use Rattle.cw_types.specs.declared.logs.DiskName.{DiskName}
 use Rattle.cw_types.specs.Faults.{Rose}
 use Rattle.cw_io.specs.declared.outlet.Outlet as outlet
@@ -8,12 +8,23 @@ use Rattle.cw_desk.specs.declared.comparing.Disagree.{Disagree}
 use Rattle.cw_desk.specs.Comparing.{AreTheJournal, IsFound, receipts_in}
 use Rattle.cw_world.specs.World.{WorldState}
 use Rattle.cw_serve.specs.declared.ends.Served.{Served}
+use Rattle.cw_serve.specs.declared.shared.Stop.{Stop}
+use Rattle.cw_serve.specs.declared.shared.Stop.TheVariants.{Memory, OutletFault}
 use Rattle.cw_serve.specs.declared.ends.ServeEnd.{ServeEnd}
 use Rattle.cw_serve.specs.declared.ends.ServeEnd.TheVariants as end
 
 -- the receipts were found to be the journal
 abbrev pub IsAgreed : ServeEnd → Type 0
 IsAgreed e = (d : Disagree) → e ≢ end.Disagree d
+
+-- why a server ended whose receipts are its journal: a failed disk, else the first stop, else a failed listener
+abbrev pub end_of : Option (DiskName × ℕ) → Option Stop → (rose failed : Bool) → ServeEnd
+end_of (Some (disk, count)) stop rose failed = end.StoreFault disk count
+end_of None (Some OutletFault) true failed = end.OutletFault
+end_of None (Some OutletFault) false failed = end.Memory
+end_of None (Some Memory) rose failed = end.Memory
+end_of None None rose true = end.NetFault
+end_of None None rose false = end.Done
 
 -- a receipt of this world isn't its journal's entry of that number, or it is one of two receipts of that number
 pub record Differs {D : Type 0} (world : WorldState D) (d : Disagree) : Type 0 where

@@ -1,11 +1,14 @@
 //! The turn of a connection handler under the lock: a call is answered and journaled, and its receipt kept.
 ghost use Rattle.std.specs.Prelude.{◌≡◌, ◌<◌, ◌≤◌, ◌+◌, ◌++◌, [], ◌∷◌, true, length, IsTrue, IfSome, IfOk, OnOk};
-ghost use Rattle.std.specs.Prelude.{OnErr, vec_len, vec_capacity};
+ghost use Rattle.std.specs.Prelude.{◌⊎◌, OnErr, IfErr, Result, Ok, Err, vec_len, vec_capacity};
+ghost use Rattle.std.specs.declared.alloc.AllocError.{AllocError};
 ghost use Rattle.cw_board.specs.Records.{IsFirstPart};
 ghost use Rattle.cw_model.specs.Journal.{IsTrueEntry};
 ghost use Rattle.cw_world.specs.Receipts.{ReceiptState};
+ghost use Rattle.cw_desk.specs.Turns.{IsTurn, Keeps};
 ghost use Rattle.cw_serve.specs.Answering.{IsKeptBy};
-ghost use Rattle.cw_serve.specs.Boarding.{IsReadFrom, IsStanding, known_of};
+ghost use Rattle.cw_serve.specs.Boarding.{IsReadFrom, IsStanding, entry_seen, known_of};
+ghost use Rattle.cw_serve.specs.Sharing.{Publishes};
 
 use crate::kept::Kept;
 use crate::naming::Begun;
@@ -34,10 +37,14 @@ impl<J: Begun, D: Disk, W: Wait + Drop> Shared<J, D, W> {
     ) -> Result<(), AllocError>
         requires { w < J.workers }
         ensures done { IfOk result (λ _. (r : ReceiptState) ×
-            IsKeptBy call r kept.old.receipts.items kept.new.receipts.items ×
-            (self.new.state.journal ≡ self.old.state.journal ++ r.entry ∷ [])) }
+            IsKeptBy w call r kept.old.receipts.items kept.new.receipts.items ×
+            IsTurn D.Disk w call self.old.world self.new.world (Ok r) ×
+            (self.new.world.state.journal ≡ self.old.world.state.journal ++ r.entry ∷ [])) }
         ensures err { OnErr result ((kept.new.receipts.items ≡ kept.old.receipts.items) ×
-            (self.new.state.journal ≡ self.old.state.journal)) }
+            (self.new.world.state.journal ≡ self.old.world.state.journal)) }
+        ensures wants { IfErr result (λ wanting. (self.new.world ≡ self.old.world) ⊎
+            IsTurn D.Disk w call self.old.world self.new.world (Err wanting)) }
+        ensures published { Publishes J.workers w (record self.old { world = self.new.world }) self.new }
     {
         let done = self.take(alloc, kept, w, call);
         self.publish(alloc, w);
@@ -55,10 +62,14 @@ impl<J: Begun, D: Disk, W: Wait + Drop> Shared<J, D, W> {
     ) -> Result<(), AllocError>
         requires { w < J.workers }
         ensures done { IfOk result (λ _. (r : ReceiptState) ×
-            IsKeptBy call r kept.old.receipts.items kept.new.receipts.items ×
-            (self.new.state.journal ≡ self.old.state.journal ++ r.entry ∷ [])) }
+            IsKeptBy w call r kept.old.receipts.items kept.new.receipts.items ×
+            IsTurn D.Disk w call self.old.world self.new.world (Ok r) ×
+            (self.new.world.state.journal ≡ self.old.world.state.journal ++ r.entry ∷ [])) }
         ensures err { OnErr result ((kept.new.receipts.items ≡ kept.old.receipts.items) ×
-            (self.new.state.journal ≡ self.old.state.journal)) }
+            (self.new.world.state.journal ≡ self.old.world.state.journal)) }
+        ensures wants { IfErr result (λ wanting. (self.new.world ≡ self.old.world) ⊎
+            IsTurn D.Disk w call self.old.world self.new.world (Err wanting)) }
+        ensures rest { self.new ≡ record self.old { world = self.new.world } }
     {
         let Shared {
             world,
@@ -100,10 +111,14 @@ impl<J: Begun, D: Disk, W: Wait + Drop> Shared<J, D, W> {
         requires seen { IsReadFrom (known_of w kept.old.board) call seen }
         requires least { kept.old.least ≤ seen.prefix }
         ensures done { IfOk result (λ _. (r : ReceiptState) ×
-            IsKeptBy call r kept.old.receipts.items kept.new.receipts.items ×
-            (self.new.state.journal ≡ self.old.state.journal ++ r.entry ∷ [])) }
+            IsKeptBy w call r kept.old.receipts.items kept.new.receipts.items ×
+            (self.new.world.state.journal ≡ self.old.world.state.journal ++ r.entry ∷ [])) }
         ensures err { OnErr result ((kept.new.receipts.items ≡ kept.old.receipts.items) ×
-            (self.new.state.journal ≡ self.old.state.journal)) }
+            (self.new.world.state.journal ≡ self.old.world.state.journal)) }
+        ensures turn { (answer : Result ReceiptState AllocError) × (
+            IsTurn D.Disk w call self.old.world self.new.world answer ⊎
+            Keeps (entry_seen w call seen) self.old.world self.new.world answer) }
+        ensures goes_on { (self.new.ended ≡ self.old.ended) × (self.new.stop ≡ self.old.stop) }
     {
         if self.stands(&mut kept.board, w, seen.prefix) {
             self.keep_seen(kept, entry_seen(w, call, seen))
@@ -117,7 +132,7 @@ impl<J: Begun, D: Disk, W: Wait + Drop> Shared<J, D, W> {
     fn stands(&self, reader: &mut Option<Board<J>>, w: u32, prefix: u64) -> bool
         requires worker { w < J.workers }
         requires prefix { prefix ≡ length (known_of w reader.old) }
-        ensures { IsTrue result → IsStanding (known_of w reader.old) w self.now.state }
+        ensures { IsTrue result → IsStanding (known_of w reader.old) w self.now.world.state }
     {
         if self.lacks {
             return false;
@@ -133,13 +148,16 @@ impl<J: Begun, D: Disk, W: Wait + Drop> Shared<J, D, W> {
     // An entry that is true and goes on behind the handler's other ones is journaled, and its receipt kept.
     fn keep_seen(&mut self, kept: &mut Kept<J>, entry: JournalEntry) -> Result<(), AllocError>
         requires board { entry.board ≡ true }
-        requires holds { IsTrueEntry self.old.setting self.old.state self.old.state.journal entry }
+        requires holds { IsTrueEntry self.old.world.setting self.old.world.state self.old.world.state.journal entry }
         requires least { kept.old.least ≤ entry.prefix }
         ensures done { IfOk result (λ _. (r : ReceiptState) ×
-            IsKeptBy entry.call r kept.old.receipts.items kept.new.receipts.items ×
-            (self.new.state.journal ≡ self.old.state.journal ++ r.entry ∷ [])) }
+            IsKeptBy entry.worker entry.call r kept.old.receipts.items kept.new.receipts.items ×
+            (self.new.world.state.journal ≡ self.old.world.state.journal ++ r.entry ∷ [])) }
         ensures err { OnErr result ((kept.new.receipts.items ≡ kept.old.receipts.items) ×
-            (self.new.state.journal ≡ self.old.state.journal)) }
+            (self.new.world.state.journal ≡ self.old.world.state.journal)) }
+        ensures keeps { (answer : Result ReceiptState AllocError) ×
+            Keeps entry self.old.world self.new.world answer }
+        ensures rest { self.new ≡ record self.old { world = self.new.world } }
     {
         let Shared {
             world,
@@ -205,7 +223,7 @@ pub fn answer<J: Begun, D: Disk, W: Wait + Drop>(
 ) -> Result<(), AllocError>
     requires { w < J.workers }
     ensures done { IfOk result (λ _. (r : ReceiptState) ×
-        IsKeptBy call r kept.old.receipts.items kept.new.receipts.items) }
+        IsKeptBy w call r kept.old.receipts.items kept.new.receipts.items) }
     ensures err { OnErr result (kept.new.receipts.items ≡ kept.old.receipts.items) }
 {
     match glance(alloc, &mut kept.board, kept.least, w, &call) {

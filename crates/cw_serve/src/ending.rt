@@ -12,7 +12,7 @@ ghost use Rattle.cw_desk.specs.Comparing.{AreTheJournal};
 ghost use Rattle.cw_model.specs.declared.journal.JournalEntry.{JournalEntry};
 ghost use Rattle.cw_turns.specs.Going.{GoesOn};
 ghost use Rattle.cw_world.specs.Receipts.{ReceiptState};
-ghost use Rattle.cw_serve.specs.Serving.{IsAgreed, Differs};
+ghost use Rattle.cw_serve.specs.Serving.{IsAgreed, Differs, end_of};
 ghost use Rattle.cw_serve.specs.Talking.{AreTalks, entries_in};
 
 use crate::common::Common;
@@ -107,6 +107,7 @@ pub fn gather<J: Begun, D: Disk>(
         IsPermutation (flat_map (λ k. k.receipts.items) books.items) receipts.items) }
     ensures ledger { IfOk result.receipts (λ receipts. AreTheJournal result.world.state.journal receipts.items) }
     ensures differs { IfErr result.receipts (λ d. Differs result.world d) }
+    ensures stop { result.stop ≡ left.stop }
 {
     let Left {
         world,
@@ -258,6 +259,7 @@ fn conclude<D: Disk, U, N>(
         IsAgreed result.end → result.end ≡ ServeEnd.StoreFault disk count }
     ensures outlet_fault { result.end ≡ ServeEnd.OutletFault → rose ≡ true }
     ensures net_fault { result.end ≡ ServeEnd.NetFault → failed ≡ true }
+    ensures agreed { IsAgreed result.end → result.end ≡ end_of told.world.state.closed told.stop rose failed }
 {
     let Told {
         world,
@@ -293,6 +295,7 @@ pub fn end_of(
     rose: bool,
     failed: bool,
 ) -> ServeEnd
+    ensures is { result ≡ end_of closed stop rose failed }
     ensures agreed { IsAgreed result }
     ensures done { result ≡ ServeEnd.Done → (closed ≡ None) × (failed ≡ false) }
     ensures store { (disk : DiskName) (count : ℕ) → result ≡ ServeEnd.StoreFault disk count →

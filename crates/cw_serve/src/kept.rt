@@ -29,7 +29,8 @@ impl<J: Begun> Kept<J> {
     /// Nothing yet.
     pub fn new(alloc: Global, share: Share<J>, board: Option<Board<J>>) -> Kept<J>
         requires { (share.parts ≡ 1) × (share.amount ≡ 0) }
-        ensures { result.receipts.items ≡ [] }
+        ensures none { (result.receipts.items ≡ []) × (result.least ≡ 0) }
+        ensures has { (result.share ≡ share) × (result.board ≡ board) }
     {
         Kept {
             receipts: Vec::new(alloc),

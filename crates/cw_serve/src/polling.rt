@@ -1,9 +1,11 @@
 //! What a task runner looks up under the lock before it acts.
-ghost use Rattle.std.specs.Prelude.{◌≡◌, ◌<◌, length, None, IfSome, IfOk};
+ghost use Rattle.std.specs.Prelude.{◌≡◌, ◌≢◌, ◌<◌, ◌⊎◌, true, false, length, None, IfSome, IfOk};
 ghost use Rattle.cw_model.specs.Lookups.{instance_of};
 ghost use Rattle.cw_model.specs.Tasks.{batch_limit_of};
 ghost use Rattle.cw_model.specs.declared.instance.InstancePhase.TheVariants as phase;
-ghost use Rattle.cw_serve.specs.Working.{IsWork};
+ghost use Rattle.cw_serve.specs.Gathering.{IsGathered};
+ghost use Rattle.cw_serve.specs.Sharing.{goes_on, stopped_for};
+ghost use Rattle.cw_serve.specs.Working.{IsWork, work_in, work_for};
 
 use crate::copying::copy_of;
 use crate::naming::Begun;
@@ -49,7 +51,9 @@ pub enum Gathered {
 impl<J: Begun, D: Disk, W: Wait + Drop> Shared<J, D, W> {
     /// How many instances there are; None where the server ends.
     pub fn instances(&self) -> Option<u64>
-        ensures { IfSome result (λ count. count ≡ length self.now.state.instances) }
+        ensures some { IfSome result (λ count. (goes_on self.now ≡ true) ×
+            (count ≡ length self.now.world.state.instances)) }
+        ensures none { result ≡ None → goes_on self.now ≡ false }
     {
         if self.goes_on() {
             Some(self.world.cluster().instances())
@@ -60,7 +64,8 @@ impl<J: Begun, D: Disk, W: Wait + Drop> Shared<J, D, W> {
 
     /// What is to be done next with an instance.
     pub fn work_of(&self, i: u64) -> Work
-        ensures { IsWork i self.now.state result }
+        ensures is { result ≡ work_for i self.now }
+        ensures may { IsWork i self.now.world.state result }
     {
         if !self.goes_on() {
             return Work::Over;
@@ -71,8 +76,12 @@ impl<J: Begun, D: Disk, W: Wait + Drop> Shared<J, D, W> {
     /// A copy of an instance that polls a source, to scan its feeds outside the lock; None where it isn't the time to
     /// poll, or memory is wanting.
     pub fn copy_polling(&mut self, alloc: Global, i: u64) -> Option<Instance>
-        ensures same { self.new ≡ self.old }
-        ensures some { IfSome result (λ copy. 0 < batch_limit_of copy) }
+        ensures some { IfSome result (λ copy. (work_for i self.old ≡ Work.Scan) ×
+            (copy ≡ instance_of i self.old.world.state)) }
+        ensures takes { IfSome result (λ copy. 0 < batch_limit_of copy) }
+        ensures same { IfSome result (λ copy. self.new ≡ self.old) }
+        ensures none { result ≡ None → ((work_for i self.old ≢ Work.Scan) × (self.new ≡ self.old)) ⊎
+            (self.new ≡ stopped_for Stop.Memory self.old) }
     {
         if !matches!(self.work_of(i), Work::Scan) {
             return None;
@@ -88,7 +97,7 @@ impl<J: Begun, D: Disk, W: Wait + Drop> Shared<J, D, W> {
 
     /// What a sink's task would hand out.
     pub fn gather(&mut self, alloc: Global, i: u64) -> Gathered
-        ensures { self.new ≡ self.old }
+        ensures { IsGathered i self.old self.new result }
     {
         if !matches!(self.work_of(i), Work::Gather) {
             return Gathered::Refused;
@@ -107,7 +116,8 @@ impl<J: Begun, D: Disk, W: Wait + Drop> Shared<J, D, W> {
 // What is to be done next with an instance of a world.
 fn work_in<D: Disk>(world: &World<D>, i: u64) -> Work
     requires { world.now.state.closed ≡ None }
-    ensures { IsWork i world.now.state result }
+    ensures is { result ≡ work_in i world.now.state }
+    ensures may { IsWork i world.now.state result }
 {
     world.is_safe();
     let cluster = world.cluster();
@@ -133,7 +143,8 @@ fn work_in<D: Disk>(world: &World<D>, i: u64) -> Work
 fn polling_copy<D: Disk>(alloc: Global, world: &World<D>, i: u64) -> Result<Instance, AllocError>
     requires there { i < length world.now.state.instances }
     requires polling { (instance_of i world.now.state).phase ≡ phase.Polling }
-    ensures { IfOk result (λ copy. 0 < batch_limit_of copy) }
+    ensures is { IfOk result (λ copy. copy ≡ instance_of i world.now.state) }
+    ensures takes { IfOk result (λ copy. 0 < batch_limit_of copy) }
 {
     world.is_safe();
     batches_take_some();

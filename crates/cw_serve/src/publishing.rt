@@ -1,5 +1,5 @@
 //! What each worker has read of the config log is put on the board.
-ghost use Rattle.std.specs.Prelude.{◌≡◌, ◌<◌, ◌≤◌, ◌-◌, take, drop, true, false, length, slice_index};
+ghost use Rattle.std.specs.Prelude.{◌≡◌, ◌≢◌, ◌<◌, ◌≤◌, ◌-◌, ℕ, take, drop, true, false, length, slice_index};
 ghost use Rattle.cw_model.specs.Lookups.{row_of};
 ghost use Rattle.cw_serve.specs.Boarding.{IsBoarded};
 
@@ -43,6 +43,7 @@ fn put_read<J: Begun, D: Disk, W: Wait + Drop>(
     requires boarded { IsBoarded J.workers board.old given.old.items true world.now.state }
     ensures boarded { IsBoarded J.workers board.new given.new.items result world.now.state }
     ensures all { result ≡ false → slice_index given.new.items w ≡ (row_of w world.now.state).prefix }
+    ensures others { (v : ℕ) → v ≢ w → slice_index given.new.items v ≡ slice_index given.old.items v }
 {
     world.is_safe();
     let at = w as usize;
@@ -78,6 +79,7 @@ pub fn publish_read<J: Begun, D: Disk, W: Wait + Drop>(
     requires boarded { IsBoarded J.workers board.old given.old.items lacks world.now.state }
     ensures boarded { IsBoarded J.workers board.new given.new.items result world.now.state }
     ensures all { result ≡ false → slice_index given.new.items w ≡ (row_of w world.now.state).prefix }
+    ensures others { (v : ℕ) → v ≢ w → slice_index given.new.items v ≡ slice_index given.old.items v }
 {
     if !lacks && given[w as usize] == read_of(world, w) {
         return false;

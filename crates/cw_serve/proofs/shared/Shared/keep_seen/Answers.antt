@@ -1,6 +1,6 @@
-use Rattle.std.proofs.Common.{rules, ◌∙◌, ◌≤◌, sym, subst}
+use Rattle.std.proofs.Common.{rules, ◌∙◌, ◌≤◌, Err, ap, sym, subst}
 use Rattle.cw_desk.specs.Keeping.{KeepsJournal}
-use Rattle.cw_serve.specs.Sharing.{IsShared}
+use Rattle.cw_serve.specs.Sharing.{SharedState, IsShared}
 use Rattle.cw_model.specs.declared.journal.JournalEntry.{JournalEntry}
 use Rattle.cw_serve.specs.Following.{Covers}
 use Rattle.cw_serve.proofs.Boarding.{stays-boarded}
@@ -44,3 +44,7 @@ invariant_of-kept-2-clause-follow g c =
     seen-follows c.args.kept.now.receipts.items c.make_room.new.receipts.items c.push_reserved.new.self.items c.in_ok-noted.noted
     c.make_room.ensures.receipts c.push_reserved.ensures.items c.args.kept.now.least c.args.kept.now.follow c.args.kept.now.covered
     (subst (λ (e : JournalEntry). c.args.kept.now.least ≤ e.prefix) (sym c.in_ok-noted.ensures.asked) c.requires.least)
+
+pub returns-in_err-make_room-clause-keeps : goal.returns-in_err-make_room-clause-keeps
+returns-in_err-make_room-clause-keeps g c =
+    (Err c.in_err-make_room.field-0.0, ap (λ (s : SharedState g.row.D.Denot). s.world) c.self.view_is)
